@@ -1,0 +1,36 @@
+-- `calendar::DateTime::from_wrapped_seconds` meets its contract.
+-- Assumes nothing.
+use mathlib.Core.Path.{_≡_}
+use Prim.Native.Nat.{ℕ, _/_, _%_}
+use native.Mathlib.Omega.{arith}
+use Rattle.gregorian.specs.Times.{timeAfter}
+use Rattle.calendar.specs.Dates.{timeOf-is}
+use borrow.Author.Needs.{needs}
+use Rattle.calendar.proofs.DateTime.from_wrapped_seconds.Statement.{statement}
+use Rattle.calendar.proofs.DateTime.from_wrapped_seconds.Tie as tie
+
+civil-from-days-requires : tie.Need-civil-from-days-requires
+civil-from-days-requires c κs = search needs
+
+cast-t6 : tie.Need-cast-t6
+cast-t6 c = search needs
+
+cast-t9 : tie.Need-cast-t9
+cast-t9 c = search needs
+
+cast-t11 : tie.Need-cast-t11
+cast-t11 c = search needs
+
+-- the code's split of a day is the calendar's
+split : (s : ℕ) → (s % 86400 / 3600 ≡ s / 3600 % 24) × (s % 86400 % 3600 / 60 ≡ s / 60 % 60) × (s % 86400 % 60 ≡ s % 60)
+split s = omega arith
+
+returns : tie.Need-returns
+unfolding timeAfter
+returns c =
+    let p = split (c .before .args .seconds % 6311433600) in
+    rw (timeOf-is, c .civil-from-days .ensures, p .0, p .1, p .2)
+
+pub from-wrapped-seconds-spec : {M : Type 1} → statement M
+from-wrapped-seconds-spec =
+    tie.close (tie.spec civil-from-days-requires cast-t6 cast-t9 cast-t11 returns)

@@ -1,0 +1,9 @@
+pub mod Formula
+pub mod Months
+pub mod Years
+pub mod Hinnant
+pub mod Civil
+pub mod Laws
+pub mod Validated
+pub mod Lossless
+pub mod Examples

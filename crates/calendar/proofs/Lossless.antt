@@ -1,0 +1,105 @@
+-- The numbered answers lose nothing: each answer can be read back from its number and values, so equal numbered answers are equal answers.
+-- Assumes nothing.
+use Prim.Native.Nat.{ℕ}
+use mathlib.Core.Bool.{cond}
+use mathlib.Core.List.{List}
+use mathlib.Core.Path.{_≡_, refl, sym, ap, _∙_}
+use lib.Dec.{eqb}
+use lib.IntN.{ℤ, pos, negsuc}
+use lib.ListN.{getD}
+use Rattle.refusals.specs.Numbered.{Numbered, accepted, refused}
+use Rattle.calendar.specs.Answers.{errorNumber, errorValues, validityAnswer, newAnswer, fromSecondsAnswer, secondsAnswer, weekdayAnswer}
+use Rattle.calendar.specs.declared.DateTime.{DateTime}
+use Rattle.calendar.specs.declared.DateTimeError.{DateTimeError}
+use Rattle.calendar.specs.declared.DateTimeError.the-variants.{Year, Month, Day, Hour, Minute, Second}
+use Rattle.calendar.specs.declared.Validity as Validity
+use Rattle.calendar.specs.declared.NewResult as NewResult
+use Rattle.calendar.specs.declared.FromSecondsResult as FromSecondsResult
+use Rattle.calendar.specs.declared.SecondsResult as SecondsResult
+use Rattle.calendar.specs.declared.WeekdayResult as WeekdayResult
+
+-- what can be read back is not lost
+pub lossless : {A B : Type 0} (f : A → B) (back : B → A) → ((a : A) → back (f a) ≡ a) → (a b : A) → f a ≡ f b → a ≡ b
+lossless f back h a b e = sym (h a) ∙ ap back e ∙ h b
+
+abbrev natural : ℤ → ℕ
+natural (pos n) = n
+natural (negsuc n) = 0
+
+abbrev value : List ℤ → ℕ → ℕ
+value vs k = natural (getD vs k (pos 0))
+
+abbrev errorOf : ℕ → List ℤ → DateTimeError
+errorOf n vs =
+    cond (eqb n 1) (Year (value vs 0))
+    (cond (eqb n 2) (Month (value vs 0))
+    (cond (eqb n 3) (Day (value vs 0) (value vs 1) (value vs 2))
+    (cond (eqb n 4) (Hour (value vs 0))
+    (cond (eqb n 5) (Minute (value vs 0)) (Second (value vs 0))))))
+
+error-back : (e : DateTimeError) → errorOf (errorNumber e) (errorValues e) ≡ e
+error-back (Year y) = refl
+error-back (Month m) = refl
+error-back (Day y m d) = refl
+error-back (Hour h) = refl
+error-back (Minute m) = refl
+error-back (Second s) = refl
+
+-- of two errors: the same number and values, the same error
+pub error-lossless : (e f : DateTimeError) → errorNumber e ≡ errorNumber f → errorValues e ≡ errorValues f → e ≡ f
+error-lossless e f p q = sym (error-back e) ∙ ap (λ (n : ℕ). errorOf n (errorValues e)) p ∙ ap (errorOf (errorNumber f)) q ∙ error-back f
+
+abbrev validityOf : Numbered (Unit {0}) → Validity.Validity
+validityOf (accepted u) = Validity.the-variants.Valid
+validityOf (refused n vs) = Validity.the-variants.Invalid (errorOf n vs)
+
+validity-back : (r : Validity.Validity) → validityOf (validityAnswer r) ≡ r
+validity-back Validity.the-variants.Valid = refl
+validity-back (Validity.the-variants.Invalid e) = ap Validity.the-variants.Invalid (error-back e)
+
+pub validity-lossless : (p q : Validity.Validity) → validityAnswer p ≡ validityAnswer q → p ≡ q
+validity-lossless = lossless validityAnswer validityOf validity-back
+
+abbrev newOf : Numbered DateTime → NewResult.NewResult
+newOf (accepted t) = NewResult.the-variants.Ok t
+newOf (refused n vs) = NewResult.the-variants.Err (errorOf n vs)
+
+new-back : (r : NewResult.NewResult) → newOf (newAnswer r) ≡ r
+new-back (NewResult.the-variants.Ok t) = refl
+new-back (NewResult.the-variants.Err e) = ap NewResult.the-variants.Err (error-back e)
+
+pub new-lossless : (p q : NewResult.NewResult) → newAnswer p ≡ newAnswer q → p ≡ q
+new-lossless = lossless newAnswer newOf new-back
+
+abbrev fromSecondsOf : Numbered DateTime → FromSecondsResult.FromSecondsResult
+fromSecondsOf (accepted t) = FromSecondsResult.the-variants.Ok t
+fromSecondsOf (refused n vs) = FromSecondsResult.the-variants.OutOfRange
+
+from-seconds-back : (r : FromSecondsResult.FromSecondsResult) → fromSecondsOf (fromSecondsAnswer r) ≡ r
+from-seconds-back (FromSecondsResult.the-variants.Ok t) = refl
+from-seconds-back FromSecondsResult.the-variants.OutOfRange = refl
+
+pub from-seconds-lossless : (p q : FromSecondsResult.FromSecondsResult) → fromSecondsAnswer p ≡ fromSecondsAnswer q → p ≡ q
+from-seconds-lossless = lossless fromSecondsAnswer fromSecondsOf from-seconds-back
+
+abbrev secondsOf : Numbered ℕ → SecondsResult.SecondsResult
+secondsOf (accepted n) = SecondsResult.the-variants.Ok n
+secondsOf (refused n vs) = SecondsResult.the-variants.Err (errorOf n vs)
+
+seconds-back : (r : SecondsResult.SecondsResult) → secondsOf (secondsAnswer r) ≡ r
+seconds-back (SecondsResult.the-variants.Ok n) = refl
+seconds-back (SecondsResult.the-variants.Err e) = ap SecondsResult.the-variants.Err (error-back e)
+
+pub seconds-lossless : (p q : SecondsResult.SecondsResult) → secondsAnswer p ≡ secondsAnswer q → p ≡ q
+seconds-lossless = lossless secondsAnswer secondsOf seconds-back
+
+abbrev weekdayOf : Numbered ℕ → WeekdayResult.WeekdayResult
+weekdayOf (accepted n) = WeekdayResult.the-variants.Ok n
+weekdayOf (refused n vs) = WeekdayResult.the-variants.Err (errorOf n vs)
+
+weekday-back : (r : WeekdayResult.WeekdayResult) → weekdayOf (weekdayAnswer r) ≡ r
+weekday-back (WeekdayResult.the-variants.Ok n) = refl
+weekday-back (WeekdayResult.the-variants.Err e) = ap WeekdayResult.the-variants.Err (error-back e)
+
+pub weekday-lossless : (p q : WeekdayResult.WeekdayResult) → weekdayAnswer p ≡ weekdayAnswer q → p ≡ q
+weekday-lossless = lossless weekdayAnswer weekdayOf weekday-back

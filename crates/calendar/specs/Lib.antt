@@ -1,0 +1,4 @@
+pub mod Dates
+pub mod Answers
+pub mod Formula
+pub mod Stated

@@ -1,0 +1,69 @@
+-- The Gregorian calendar from 2000-01-01 on: the leap rule, the lengths of the months, and the days counted one by one. A date is the struct `Date` of the source.
+-- Assumes nothing.
+use Prim.Native.Nat.{ℕ, zero, suc, _+_, _-_, _%_}
+use mathlib.Core.Bool.{Bool, cond, not, _&&_, _||_}
+use mathlib.Core.List.{List, [], _∷_}
+use lib.Dec.{ltb, eqb}
+use lib.ListN.{getD, take}
+use Rattle.gregorian.specs.declared.Date.{Date}
+
+-- k divides n
+unfoldable pub divides : ℕ → ℕ → Bool
+divides k n = eqb (n % k) 0
+
+-- a year is leap if it is divisible by 4, and not by 100 unless by 400
+unfoldable pub leap : ℕ → Bool
+leap y = divides 4 y && (not (divides 100 y) || divides 400 y)
+
+-- the lengths of the twelve months, of a leap year or of a common one
+unfoldable pub months : Bool → List ℕ
+months isLeap = 31 ∷ cond isLeap 29 28 ∷ 31 ∷ 30 ∷ 31 ∷ 30 ∷ 31 ∷ 31 ∷ 30 ∷ 31 ∷ 30 ∷ 31 ∷ []
+
+-- the length of month m, 1 to 12, of year y. A month 0 counts as January, one above 12 as a month of 31 days.
+unfoldable pub monthLength : ℕ → ℕ → ℕ
+monthLength y m = getD (months (leap y)) (m - 1) 31
+
+-- the sum of a list
+unfoldable pub sum : List ℕ → ℕ
+sum [] = 0
+sum (n ∷ ns) = n + sum ns
+
+-- the days of year y
+unfoldable pub yearLength : ℕ → ℕ
+yearLength y = sum (months (leap y))
+
+-- the days of year y before its month m
+unfoldable pub daysBeforeMonth : ℕ → ℕ → ℕ
+daysBeforeMonth y m = sum (take (m - 1) (months (leap y)))
+
+-- the days of the first k years from 2000 on
+unfoldable pub daysOfYears : ℕ → ℕ
+daysOfYears zero = 0
+daysOfYears (suc k) = daysOfYears k + yearLength (2000 + k)
+
+-- the days from 2000-01-01 to a date: those of the years, the months and the days before it
+unfoldable pub dayNumber : ℕ → ℕ → ℕ → ℕ
+dayNumber y m d = daysOfYears (y - 2000) + daysBeforeMonth y m + (d - 1)
+
+-- the day after a date
+unfoldable pub nextDay : Date → Date
+nextDay t =
+    cond (ltb (t .day) (monthLength (t .year) (t .month)))
+    (record { year = t .year; month = t .month; day = t .day + 1 })
+    (cond (ltb (t .month) 12)
+    (record { year = t .year; month = t .month + 1; day = 1 })
+    (record { year = t .year + 1; month = 1; day = 1 }))
+
+-- the date n days after 2000-01-01
+unfoldable pub dateOfDay : ℕ → Date
+dateOfDay zero = record { year = 2000; month = 1; day = 1 }
+dateOfDay (suc n) = nextDay (dateOfDay n)
+
+-- the day of the week after w, Monday 1 to Sunday 7
+unfoldable pub nextWeekday : ℕ → ℕ
+nextWeekday w = cond (ltb w 7) (w + 1) 1
+
+-- the day of the week n days after 2000-01-01, a Saturday
+unfoldable pub weekdayOfDay : ℕ → ℕ
+weekdayOfDay zero = 6
+weekdayOfDay (suc n) = nextWeekday (weekdayOfDay n)

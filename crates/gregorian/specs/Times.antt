@@ -1,0 +1,88 @@
+-- A date with a time of day, from 2000-01-01T00:00:00 to 2199-12-31T23:59:59: which are valid, their seconds since 2000, and the nearest valid time.
+-- Assumes nothing.
+use Prim.Native.Nat.{ℕ, _+_, _*_, _/_, _%_, _≤_}
+use mathlib.Core.Bool.{Bool, cond, _&&_}
+use mathlib.Core.List.{[], _∷_}
+use lib.Dec.{ltb, leb}
+use lib.IntN.{pos}
+use Rattle.refusals.specs.Numbered.{Numbered, accepted, refused}
+use Rattle.gregorian.specs.Calendar.{monthLength, dayNumber, dateOfDay, weekdayOfDay}
+
+-- a date and a time of day, whose fields may be any numbers
+pub record Time : Type 0 where
+  pub year : ℕ
+  pub month : ℕ
+  pub day : ℕ
+  pub hour : ℕ
+  pub minute : ℕ
+  pub second : ℕ
+
+-- a date of the years 2000 to 2199
+pub record ValidDate (y m d : ℕ) : Type 0 where
+  pub year-from : 2000 ≤ y
+  pub year-to : y ≤ 2199
+  pub month-from : 1 ≤ m
+  pub month-to : m ≤ 12
+  pub day-from : 1 ≤ d
+  pub day-to : d ≤ monthLength y m
+
+-- a time whose every field is in its range
+pub record Valid (t : Time) : Type 0 where
+  pub date : ValidDate (t .year) (t .month) (t .day)
+  pub hour-to : t .hour ≤ 23
+  pub minute-to : t .minute ≤ 59
+  pub second-to : t .second ≤ 59
+
+-- n is from a to b
+unfoldable pub within : ℕ → ℕ → ℕ → Bool
+within a b n = leb a n && leb n b
+
+-- the check of a time: refusal 1 to 6 for the first field out of its range
+unfoldable pub checkedTime : Time → Numbered (Unit {0})
+checkedTime t =
+    cond (within 2000 2199 (t .year))
+    (cond (within 1 12 (t .month))
+    (cond (within 1 (monthLength (t .year) (t .month)) (t .day))
+    (cond (within 0 23 (t .hour))
+    (cond (within 0 59 (t .minute))
+    (cond (within 0 59 (t .second))
+    (accepted tt)
+    (refused 6 (pos (t .second) ∷ [])))
+    (refused 5 (pos (t .minute) ∷ [])))
+    (refused 4 (pos (t .hour) ∷ [])))
+    (refused 3 (pos (t .year) ∷ pos (t .month) ∷ pos (t .day) ∷ [])))
+    (refused 2 (pos (t .month) ∷ [])))
+    (refused 1 (pos (t .year) ∷ []))
+
+-- the seconds from 2000-01-01T00:00:00 to a time
+unfoldable pub secondsTo : Time → ℕ
+secondsTo t = ((dayNumber (t .year) (t .month) (t .day) * 24 + t .hour) * 60 + t .minute) * 60 + t .second
+
+-- the time s seconds after 2000-01-01T00:00:00
+unfoldable pub timeAfter : ℕ → Time
+timeAfter s =
+    let date = dateOfDay (s / 86400) in
+    record { year = date .year; month = date .month; day = date .day; hour = s / 3600 % 24; minute = s / 60 % 60; second = s % 60 }
+
+-- the check of a number of seconds since 2000: refusal 8 past the last second of 2199
+unfoldable pub checkedSeconds : ℕ → Numbered (Unit {0})
+checkedSeconds s = cond (ltb s 6311433600) (accepted tt) (refused 8 [])
+
+-- the day of the week of a time, Monday 1 to Sunday 7
+unfoldable pub weekdayOn : Time → ℕ
+weekdayOn t = weekdayOfDay (dayNumber (t .year) (t .month) (t .day))
+
+-- the number from a to b that is nearest to n
+unfoldable pub nearestIn : ℕ → ℕ → ℕ → ℕ
+nearestIn a b n = cond (ltb n a) a (cond (ltb b n) b n)
+
+-- the time whose every field is moved to the nearest value in its range, a day past the month's end to its last day
+unfoldable pub nearestTime : Time → Time
+nearestTime t =
+    let y = nearestIn 2000 2199 (t .year) in
+    let m = nearestIn 1 12 (t .month) in
+    record { year = y; month = m; day = nearestIn 1 (monthLength y m) (t .day); hour = nearestIn 0 23 (t .hour); minute = nearestIn 0 59 (t .minute); second = nearestIn 0 59 (t .second) }
+
+-- a time with another day
+abbrev pub withDay : ℕ → Time → Time
+withDay d t = record { year = t .year; month = t .month; day = d; hour = t .hour; minute = t .minute; second = t .second }

@@ -1,0 +1,15 @@
+-- An answer as document 01 numbers it.
+-- Assumes nothing.
+use Prim.Native.Nat.{ℕ}
+use mathlib.Core.List.{List}
+use lib.IntN.{ℤ}
+
+-- accepted with a value, or refused with a number of the table of refusals and the values that the table gives it
+pub data Numbered (A : Type 0) : Type 0 where
+  accepted : A → Numbered A
+  refused : ℕ → List ℤ → Numbered A
+
+-- the answer of a call after a check: the check's refusal if it refuses, else the answer
+abbrev pub andThen : {A : Type 0} → Numbered (Unit {0}) → Numbered A → Numbered A
+andThen (accepted _) answer = answer
+andThen (refused number values) answer = refused number values

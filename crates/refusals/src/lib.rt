@@ -1,0 +1,1 @@
+// The answers as the table of refusals numbers them: a definition alone, in specs/.

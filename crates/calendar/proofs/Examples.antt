@@ -6,7 +6,7 @@ use lib.IntN.{pos}
 use Rattle.refusals.specs.Numbered.{accepted, refused, andThen}
 use Rattle.gregorian.specs.Times.{checkedSeconds}
 use Rattle.gregorian.proofs.Examples as Rows
-use Rattle.calendar.specs.Dates.{asDateTime, checked, checked-is, secondsOf, secondsOf-is, timeOf, timeOf-is, weekdayOf, weekdayOf-is}
+use Rattle.calendar.specs.Dates.{asDateTime, dateTime, checked, checked-is, secondsOf, secondsOf-is, timeOf, timeOf-is, weekdayOf, weekdayOf-is}
 
 -- what the public calls answer to a row
 pub record Right (r : Rows.Row) : Type 0 where
@@ -34,5 +34,5 @@ pub too-late : andThen (checkedSeconds 6311433600) (accepted (timeOf 6311433600)
 too-late = rw Rows.too-late
 
 -- 2100-02-29 gives 3
-pub no-leap-day : checked (record { year = 2100; month = 2; day = 29; hour = 0; minute = 0; second = 0 }) ≡ refused 3 (pos 2100 ∷ pos 2 ∷ pos 29 ∷ [])
+pub no-leap-day : checked (dateTime 2100 2 29 0 0 0) ≡ refused 3 (pos 2100 ∷ pos 2 ∷ pos 29 ∷ [])
 no-leap-day = checked-is _ ∙ Rows.no-leap-day

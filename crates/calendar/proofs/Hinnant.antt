@@ -53,7 +53,6 @@ pub record Found (x y m d : ℕ) : Type 0 where
   pub era : x / 146097 ≡ y / 400
   pub year : yearOfEra (x % 146097) ≡ y % 400
   pub within : startInEra (yearOfEra (x % 146097)) ≤ x % 146097
-  pub day-of-year : dayOfYear x ≡ marchMonth m + (d - 1)
   pub month : monthOf x ≡ m
   pub month-in : marchMonth (monthOf x) ≤ dayOfYear x
   pub day : dayOf x ≡ d
@@ -95,7 +94,6 @@ found x y m d p q h i j e =
       era = b .0;
       year = f;
       within = below (startInEra (yearOfEra (x % 146097))) (startInEra (y % 400)) (x % 146097) (marchMonth m + (d - 1)) w g;
-      day-of-year = o;
       month = t;
       month-in = below (marchMonth (monthOf x)) (marchMonth m) (dayOfYear x) (d - 1) (ap marchMonth t) o;
       day =

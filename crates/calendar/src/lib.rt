@@ -5,7 +5,7 @@ ghost use Rattle.refusals.specs.Numbered.{accepted, andThen};
 ghost use Rattle.gregorian.specs.Calendar.{leap, monthLength, dayNumber, dateOfDay};
 ghost use Rattle.gregorian.specs.Times.{ValidDate, nearestIn, checkedSeconds};
 ghost use Rattle.calendar.specs.Formula.{marchYear, marchMonth};
-ghost use Rattle.calendar.specs.Dates.{InRange, checked, secondsOf, timeOf, weekdayOf, nearest};
+ghost use Rattle.calendar.specs.Dates.{dateTime, InRange, checked, secondsOf, timeOf, weekdayOf, nearest};
 ghost use Rattle.calendar.specs.Answers.{validityAnswer, newAnswer, fromSecondsAnswer, secondsAnswer, weekdayAnswer};
 use gregorian::Date;
 
@@ -87,7 +87,7 @@ impl DateTime {
 
     // A valid time.
     pub fn new(year: u16, month: u8, day: u8, hour: u8, minute: u8, second: u8) -> NewResult
-        ensures { λ r. ⌜ newAnswer r ≡ andThen (checked (record { year = year; month = month; day = day; hour = hour; minute = minute; second = second })) (accepted (record { year = year; month = month; day = day; hour = hour; minute = minute; second = second })) ⌝ }
+        ensures { λ r. ⌜ newAnswer r ≡ andThen (checked (dateTime year month day hour minute second)) (accepted (dateTime year month day hour minute second)) ⌝ }
     {
         let time = DateTime {
             year,

@@ -26,13 +26,11 @@ each : (rs : List Rows.Row) → Rows.Each Rows.Right rs → Rows.Each Right rs
 each [] h = tt
 each (r ∷ rs) h = (right r (h .0), each rs (h .1))
 
-pub examples : Rows.Each Right Rows.table
-examples = each Rows.table Rows.examples
+-- the rows, and the two refusals
+pub record Examples : Type 0 where
+  pub rows : Rows.Each Right Rows.table
+  pub too-late : andThen (checkedSeconds 6311433600) (accepted (timeOf 6311433600)) ≡ refused 8 []
+  pub no-leap-day : checked (dateTime 2100 2 29 0 0 0) ≡ refused 3 (pos 2100 ∷ pos 2 ∷ pos 29 ∷ [])
 
--- 6,311,433,600 gives 8
-pub too-late : andThen (checkedSeconds 6311433600) (accepted (timeOf 6311433600)) ≡ refused 8 []
-too-late = rw Rows.too-late
-
--- 2100-02-29 gives 3
-pub no-leap-day : checked (dateTime 2100 2 29 0 0 0) ≡ refused 3 (pos 2100 ∷ pos 2 ∷ pos 29 ∷ [])
-no-leap-day = checked-is _ ∙ Rows.no-leap-day
+pub examples : Examples
+examples = record { rows = each Rows.table Rows.examples; too-late = rw Rows.too-late; no-leap-day = checked-is _ ∙ Rows.no-leap-day }

@@ -2,7 +2,7 @@
 -- Assumes nothing.
 use mathlib.Core.List.{[]}
 use mathlib.Core.Path.{_≡_, sym, ap, subst, _∙_}
-use Prim.Native.Nat.{ℕ, _+_, _/_, _%_, _≤_, _<_}
+use Prim.Native.Nat.{ℕ, _+_, _*_, _/_, _%_, _≤_, _<_}
 use Rattle.refusals.specs.Numbered.{accepted, refused}
 use Rattle.gregorian.specs.Calendar.{monthLength, dayNumber, dateOfDay}
 use Rattle.gregorian.specs.Times.{Time, Valid, checkedSeconds, secondsTo, timeAfter, weekdayOn}
@@ -57,6 +57,10 @@ time-in-range s h = subst InRange (sym (timeOf-is s)) (Seconds.time-valid s h)
 
 pub seconds-below : (t : DateTime) → InRange t → secondsOf t < 6311433600
 seconds-below t v = rw secondsOf-is (Seconds.seconds-below (asTime t) v)
+
+-- the seconds of a time are those of its days, hours and minutes, and its own
+pub seconds-formula : (t : DateTime) → secondsOf t ≡ dayNumber (t .year) (t .month) (t .day) * 86400 + t .hour * 3600 + t .minute * 60 + t .second
+seconds-formula t = secondsOf-is t ∙ Seconds.seconds-formula (asTime t)
 
 -- the day number is the seconds over 86,400
 pub seconds-day : (t : DateTime) → InRange t → secondsOf t / 86400 ≡ dayNumber (t .year) (t .month) (t .day)

@@ -1,12 +1,13 @@
 -- The numbered answers lose nothing: each answer can be read back from its number and values, so equal numbered answers are equal answers.
 -- Assumes nothing.
 use Prim.Native.Nat.{ℕ}
-use mathlib.Core.Bool.{cond}
 use mathlib.Core.List.{List}
 use mathlib.Core.Path.{_≡_, refl, sym, ap, _∙_}
 use lib.Dec.{eqb}
 use lib.IntN.{ℤ, pos, negsuc}
 use lib.ListN.{getD}
+use Rattle.computed.specs.Choice.{if_then_else_}
+use Rattle.computed.proofs.Lossless.{lossless}
 use Rattle.refusals.specs.Numbered.{Numbered, accepted, refused}
 use Rattle.calendar.specs.Answers.{errorNumber, errorValues, validityAnswer, newAnswer, fromSecondsAnswer, secondsAnswer, weekdayAnswer}
 use Rattle.calendar.specs.declared.DateTime.{DateTime}
@@ -18,10 +19,6 @@ use Rattle.calendar.specs.declared.FromSecondsResult as FromSecondsResul
 use Rattle.calendar.specs.declared.SecondsResult as SecondsResult
 use Rattle.calendar.specs.declared.WeekdayResult as WeekdayResult
 
--- what can be read back is not lost
-pub lossless : {A B : Type 0} (f : A → B) (back : B → A) → ((a : A) → back (f a) ≡ a) → (a b : A) → f a ≡ f b → a ≡ b
-lossless f back h a b e = sym (h a) ∙ ap back e ∙ h b
-
 abbrev natural : ℤ → ℕ
 natural (pos n) = n
 natural (negsuc n) = 0
@@ -31,11 +28,12 @@ value vs k = natural (getD vs k (pos 0))
 
 abbrev errorOf : ℕ → List ℤ → DateTimeError
 errorOf n vs =
-    cond (eqb n 1) (Year (value vs 0))
-    (cond (eqb n 2) (Month (value vs 0))
-    (cond (eqb n 3) (Day (value vs 0) (value vs 1) (value vs 2))
-    (cond (eqb n 4) (Hour (value vs 0))
-    (cond (eqb n 5) (Minute (value vs 0)) (Second (value vs 0))))))
+    if eqb n 1 then Year (value vs 0)
+    else if eqb n 2 then Month (value vs 0)
+    else if eqb n 3 then Day (value vs 0) (value vs 1) (value vs 2)
+    else if eqb n 4 then Hour (value vs 0)
+    else if eqb n 5 then Minute (value vs 0)
+    else Second (value vs 0)
 
 error-back : (e : DateTimeError) → errorOf (errorNumber e) (errorValues e) ≡ e
 error-back (Year y) = refl

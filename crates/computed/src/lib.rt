@@ -1,1 +1,1 @@
-// Proofs alone, for the crates above: claims that a computed test decides, and choices by a test.
+// The choice by a test, for definitions; and proofs for the crates above: claims that a computed test decides, and choices.

@@ -1,15 +1,16 @@
 -- `checkedTime` accepts the valid times and no others, and else refuses the first field out of its range.
 -- Assumes nothing.
-use mathlib.Core.Bool.{Bool, true, false, cond, _&&_}
-use mathlib.Core.List.{[], _∷_}
-use mathlib.Core.Path.{_≡_, refl}
+use mathlib.Core.Bool.{true, false, not}
+use mathlib.Core.List.{List, [], _∷_}
+use mathlib.Core.Path.{_≡_}
 use Prim.Native.Nat.{ℕ, _≤_, _<_}
 use native.Mathlib.Omega.{arith}
 use lib.Dec.{leb}
-use lib.IntN.{pos}
-use borrow.Author.Tests.{le-leb, lt-leb, leb-true}
+use lib.IntN.{ℤ, pos}
+use borrow.Author.Tests.{le-leb, lt-leb, leb-true, not-false}
 use Rattle.refusals.specs.Numbered.{Numbered, accepted, refused}
-use Rattle.computed.proofs.Choice.{choice}
+use Rattle.computed.specs.Choice.{if_then_else_}
+use Rattle.computed.proofs.Choice.{chosen, both, both-false}
 use Rattle.gregorian.specs.Calendar.{monthLength}
 use Rattle.gregorian.specs.Times.{Time, Valid, within, checkedTime}
 
@@ -24,10 +25,6 @@ pub data Out (a b n : ℕ) : Type 0 where
 inside : (a b n : ℕ) → In a b n → within a b n ≡ true
 unfolding within
 inside a b n h = simp (le-leb a n (h .0), le-leb n b (h .1))
-
-both-false : (x y : Bool) → y ≡ false → (x && y) ≡ false
-both-false true y e = e
-both-false false y e = refl
 
 outside : (a b n : ℕ) → Out a b n → within a b n ≡ false
 unfolding within
@@ -79,44 +76,30 @@ module _ (t : Time) where
       )
 
 -- what holds of both answers of a test on a range holds of what it chooses
-by-range : {A : Type 0} (P : A → Type 0) (a b n : ℕ) {x y : A} → (a ≤ n → n ≤ b → P x) → P y → P (cond (within a b n) x y)
+by-range : {A : Type 0} (P : A → Type 0) (a b n : ℕ) {x y : A} → P y → (a ≤ n → n ≤ b → P x) → P (if not (within a b n) then y else x)
 unfolding within
-by-range P a b n f g =
-    choice P (within a b n) (λ e. f (leb-true a n (left (leb a n) (leb n b) e)) (leb-true n b (right (leb a n) (leb n b) e))) (λ e. g)
-  where
-    left : (p q : Bool) → (p && q) ≡ true → p ≡ true
-    left true q e = refl
-    left false q e = e
+by-range P a b n g f =
+    chosen P (not (within a b n)) (λ e. g)
+    (λ e. let w = both (leb a n) (leb n b) (not-false (within a b n) e) in f (leb-true a n (w .0)) (leb-true n b (w .1)))
 
-    right : (p q : Bool) → (p && q) ≡ true → q ≡ true
-    right true q e = e
-    right false q e = absurd (let z : _≡_ {A = ℕ} 0 1 = cc in omega arith)
+-- a refusal accepts nothing
+clash : {A : Type 0} (n : ℕ) (vs : List ℤ) → _≡_ {A = Numbered (Unit {0})} (refused n vs) (accepted tt) → A
+clash n vs e = absurd (let z : _≡_ {A = ℕ} 0 1 = cc in omega arith)
 
 pub accepted-valid : (t : Time) → checkedTime t ≡ accepted tt → Valid t
 unfolding checkedTime
 accepted-valid t =
     let P : Numbered (Unit {0}) → Type 0 = λ v. v ≡ accepted tt → Valid t in
-    by-range P 2000 2199 (t .year)
-    (λ y₁ y₂.
-    by-range P 1 12 (t .month)
-    (λ m₁ m₂.
-    by-range P 1 (monthLength (t .year) (t .month)) (t .day)
-    (λ d₁ d₂.
-    by-range P 0 23 (t .hour)
-    (λ h₁ h₂.
-    by-range P 0 59 (t .minute)
-    (λ i₁ i₂.
-    by-range P 0 59 (t .second)
+    by-range P 2000 2199 (t .year) (clash _ _)
+    (λ y₁ y₂. by-range P 1 12 (t .month) (clash _ _)
+    (λ m₁ m₂. by-range P 1 (monthLength (t .year) (t .month)) (t .day) (clash _ _)
+    (λ d₁ d₂. by-range P 0 23 (t .hour) (clash _ _)
+    (λ h₁ h₂. by-range P 0 59 (t .minute) (clash _ _)
+    (λ i₁ i₂. by-range P 0 59 (t .second) (clash _ _)
     (λ s₁ s₂ e.
     record {
       date = record { year-from = y₁; year-to = y₂; month-from = m₁; month-to = m₂; day-from = d₁; day-to = d₂ };
       hour-to = h₂;
       minute-to = i₂;
       second-to = s₂;
-    })
-    (λ e. absurd (let z : _≡_ {A = ℕ} 0 1 = cc in omega arith)))
-    (λ e. absurd (let z : _≡_ {A = ℕ} 0 1 = cc in omega arith)))
-    (λ e. absurd (let z : _≡_ {A = ℕ} 0 1 = cc in omega arith)))
-    (λ e. absurd (let z : _≡_ {A = ℕ} 0 1 = cc in omega arith)))
-    (λ e. absurd (let z : _≡_ {A = ℕ} 0 1 = cc in omega arith)))
-    (λ e. absurd (let z : _≡_ {A = ℕ} 0 1 = cc in omega arith))
+    }))))))

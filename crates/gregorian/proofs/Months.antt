@@ -1,18 +1,19 @@
 -- The months of a leap and of a common year, computed at each of the twelve.
 -- Assumes nothing.
-use mathlib.Core.Bool.{Bool, true, false, cond}
+use mathlib.Core.Bool.{Bool, true, false}
 use mathlib.Core.Logic.{⊎-elim}
 use mathlib.Core.Path.{_≡_, refl}
 use Prim.Native.Nat.{ℕ, _+_, _-_, _≤_, _<_}
 use native.Mathlib.Omega.{arith}
 use lib.ListN.{getD, take, length, List·getD-eq-default}
+use Rattle.computed.specs.Choice.{if_then_else_}
 use Rattle.computed.proofs.Claim.{Claim, eq, le, and, Means, each}
 use Rattle.computed.proofs.Choice.{le-or-lt}
 use Rattle.gregorian.specs.Calendar.{leap, months, sum, monthLength, daysBeforeMonth, yearLength}
 
 -- the leap day, as a number of days
 abbrev pub bit : Bool → ℕ
-bit b = cond b 1 0
+bit b = if b then 1 else 0
 
 -- the length of the month m, and the days before it
 abbrev pub size : Bool → ℕ → ℕ

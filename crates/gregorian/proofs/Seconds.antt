@@ -32,6 +32,10 @@ pub seconds-day : (t : Time) → Valid t → secondsTo t / 86400 ≡ dayNumber (
 unfolding secondsTo
 seconds-day t v = parts (dayNumber (t .year) (t .month) (t .day)) (t .hour) (t .minute) (t .second) (v .hour-to) (v .minute-to) (v .second-to) .0
 
+pub seconds-formula : (t : Time) → secondsTo t ≡ dayNumber (t .year) (t .month) (t .day) * 86400 + t .hour * 3600 + t .minute * 60 + t .second
+unfolding secondsTo
+seconds-formula t = omega arith
+
 pub seconds-accepted : (s : ℕ) → s < 6311433600 → checkedSeconds s ≡ accepted tt
 unfolding checkedSeconds
 seconds-accepted s h = rw (lt-ltb s 6311433600 h)

@@ -1,10 +1,11 @@
 -- The Gregorian calendar from 2000-01-01 on: the leap rule, the lengths of the months, and the days counted one by one. A date is the struct `Date` of the source.
 -- Assumes nothing.
 use Prim.Native.Nat.{ℕ, zero, suc, _+_, _-_, _%_}
-use mathlib.Core.Bool.{Bool, cond, not, _&&_, _||_}
+use mathlib.Core.Bool.{Bool, not, _&&_, _||_}
 use mathlib.Core.List.{List, [], _∷_}
 use lib.Dec.{ltb, eqb}
 use lib.ListN.{getD, take}
+use Rattle.computed.specs.Choice.{if_then_else_}
 use Rattle.gregorian.specs.declared.Date.{Date}
 
 -- k divides n
@@ -17,7 +18,7 @@ leap y = divides 4 y && (not (divides 100 y) || divides 400 y)
 
 -- the lengths of the twelve months, of a leap year or of a common one
 unfoldable pub months : Bool → List ℕ
-months isLeap = 31 ∷ cond isLeap 29 28 ∷ 31 ∷ 30 ∷ 31 ∷ 30 ∷ 31 ∷ 31 ∷ 30 ∷ 31 ∷ 30 ∷ 31 ∷ []
+months isLeap = 31 ∷ (if isLeap then 29 else 28) ∷ 31 ∷ 30 ∷ 31 ∷ 30 ∷ 31 ∷ 31 ∷ 30 ∷ 31 ∷ 30 ∷ 31 ∷ []
 
 -- the length of month m, 1 to 12, of year y. A month 0 counts as January, one above 12 as a month of 31 days.
 unfoldable pub monthLength : ℕ → ℕ → ℕ
@@ -48,11 +49,9 @@ dayNumber y m d = daysOfYears (y - 2000) + daysBeforeMonth y m + (d - 1)
 -- the day after a date
 unfoldable pub nextDay : Date → Date
 nextDay t =
-    cond (ltb (t .day) (monthLength (t .year) (t .month)))
-    (record { year = t .year; month = t .month; day = t .day + 1 })
-    (cond (ltb (t .month) 12)
-    (record { year = t .year; month = t .month + 1; day = 1 })
-    (record { year = t .year + 1; month = 1; day = 1 }))
+    if ltb (t .day) (monthLength (t .year) (t .month)) then record { year = t .year; month = t .month; day = t .day + 1 }
+    else if ltb (t .month) 12 then record { year = t .year; month = t .month + 1; day = 1 }
+    else record { year = t .year + 1; month = 1; day = 1 }
 
 -- the date n days after 2000-01-01
 unfoldable pub dateOfDay : ℕ → Date
@@ -61,7 +60,7 @@ dateOfDay (suc n) = nextDay (dateOfDay n)
 
 -- the day of the week after w, Monday 1 to Sunday 7
 unfoldable pub nextWeekday : ℕ → ℕ
-nextWeekday w = cond (ltb w 7) (w + 1) 1
+nextWeekday w = if ltb w 7 then w + 1 else 1
 
 -- the day of the week n days after 2000-01-01, a Saturday
 unfoldable pub weekdayOfDay : ℕ → ℕ

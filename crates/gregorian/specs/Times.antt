@@ -1,10 +1,11 @@
 -- A date with a time of day, from 2000-01-01T00:00:00 to 2199-12-31T23:59:59: which are valid, their seconds since 2000, and the nearest valid time.
 -- Assumes nothing.
 use Prim.Native.Nat.{ℕ, _+_, _*_, _/_, _%_, _≤_}
-use mathlib.Core.Bool.{Bool, cond, _&&_}
+use mathlib.Core.Bool.{Bool, not, _&&_}
 use mathlib.Core.List.{[], _∷_}
 use lib.Dec.{ltb, leb}
 use lib.IntN.{pos}
+use Rattle.computed.specs.Choice.{if_then_else_}
 use Rattle.refusals.specs.Numbered.{Numbered, accepted, refused}
 use Rattle.gregorian.specs.Calendar.{monthLength, dayNumber, dateOfDay, weekdayOfDay}
 
@@ -40,19 +41,13 @@ within a b n = leb a n && leb n b
 -- the check of a time: refusal 1 to 6 for the first field out of its range
 unfoldable pub checkedTime : Time → Numbered (Unit {0})
 checkedTime t =
-    cond (within 2000 2199 (t .year))
-    (cond (within 1 12 (t .month))
-    (cond (within 1 (monthLength (t .year) (t .month)) (t .day))
-    (cond (within 0 23 (t .hour))
-    (cond (within 0 59 (t .minute))
-    (cond (within 0 59 (t .second))
-    (accepted tt)
-    (refused 6 (pos (t .second) ∷ [])))
-    (refused 5 (pos (t .minute) ∷ [])))
-    (refused 4 (pos (t .hour) ∷ [])))
-    (refused 3 (pos (t .year) ∷ pos (t .month) ∷ pos (t .day) ∷ [])))
-    (refused 2 (pos (t .month) ∷ [])))
-    (refused 1 (pos (t .year) ∷ []))
+    if not (within 2000 2199 (t .year)) then refused 1 (pos (t .year) ∷ [])
+    else if not (within 1 12 (t .month)) then refused 2 (pos (t .month) ∷ [])
+    else if not (within 1 (monthLength (t .year) (t .month)) (t .day)) then refused 3 (pos (t .year) ∷ pos (t .month) ∷ pos (t .day) ∷ [])
+    else if not (within 0 23 (t .hour)) then refused 4 (pos (t .hour) ∷ [])
+    else if not (within 0 59 (t .minute)) then refused 5 (pos (t .minute) ∷ [])
+    else if not (within 0 59 (t .second)) then refused 6 (pos (t .second) ∷ [])
+    else accepted tt
 
 -- the seconds from 2000-01-01T00:00:00 to a time
 unfoldable pub secondsTo : Time → ℕ
@@ -66,7 +61,7 @@ timeAfter s =
 
 -- the check of a number of seconds since 2000: refusal 8 past the last second of 2199
 unfoldable pub checkedSeconds : ℕ → Numbered (Unit {0})
-checkedSeconds s = cond (ltb s 6311433600) (accepted tt) (refused 8 [])
+checkedSeconds s = if ltb s 6311433600 then accepted tt else refused 8 []
 
 -- the day of the week of a time, Monday 1 to Sunday 7
 unfoldable pub weekdayOn : Time → ℕ
@@ -74,7 +69,7 @@ weekdayOn t = weekdayOfDay (dayNumber (t .year) (t .month) (t .day))
 
 -- the number from a to b that is nearest to n
 unfoldable pub nearestIn : ℕ → ℕ → ℕ → ℕ
-nearestIn a b n = cond (ltb n a) a (cond (ltb b n) b n)
+nearestIn a b n = if ltb n a then a else if ltb b n then b else n
 
 -- the time whose every field is moved to the nearest value in its range, a day past the month's end to its last day
 unfoldable pub nearestTime : Time → Time

@@ -1,6 +1,6 @@
 -- `calendar::days_in_month` meets its contract. What the last arm says of every other month is computed at each `u8`.
 -- Assumes nothing.
-use mathlib.Core.Bool.{Bool, true, false, cond, _||_}
+use mathlib.Core.Bool.{Bool, true, false, _||_}
 use mathlib.Core.Logic.{⊎-elim, inl, inr}
 use mathlib.Core.Path.{_≡_, refl, sym, ap, _∙_}
 use Prim.Native.Nat.{ℕ, _-_, _<_}
@@ -10,13 +10,14 @@ use lib.ListN.{getD}
 use borrow.Author.Needs.{needs}
 use borrow.Author.Tests.{ne-eqb}
 use Rattle.gregorian.specs.Calendar.{leap, months, monthLength}
+use Rattle.computed.specs.Choice.{if_then_else_}
 use Rattle.computed.proofs.Claim.{Claim, eq, each}
 use Rattle.calendar.proofs.days_in_month.Statement.{statement}
 use Rattle.calendar.proofs.days_in_month.Tie as tie
 
-february : (y m : ℕ) (b : Bool) → m ≡ 2 → leap y ≡ b → monthLength y m ≡ cond b 29 28
+february : (y m : ℕ) (b : Bool) → m ≡ 2 → leap y ≡ b → monthLength y m ≡ (if b then 29 else 28)
 unfolding monthLength months
-february y m b e f = ap (λ (k : ℕ). getD (months (leap y)) (k - 1) 31) e ∙ ap (λ (l : Bool). cond l 29 28) f
+february y m b e f = ap (λ (k : ℕ). getD (months (leap y)) (k - 1) 31) e ∙ ap (λ (l : Bool). if l then 29 else 28) f
 
 short : (y m k : ℕ) → m ≡ k → ((l : Bool) → getD (months l) (k - 1) 31 ≡ 30) → monthLength y m ≡ 30
 unfolding monthLength months
@@ -27,16 +28,16 @@ abbrev key : ℕ → Bool
 key m = eqb m 2 || (eqb m 4 || (eqb m 6 || (eqb m 9 || eqb m 11)))
 
 abbrev usual : Bool → ℕ → Claim
-usual l m = eq (cond (key m) 31 (getD (months l) (m - 1) 31)) 31
+usual l m = eq ((if key m then 31 else getD (months l) (m - 1) 31)) 31
 
-usual-is : (l : Bool) (m : ℕ) → m < 256 → cond (key m) 31 (getD (months l) (m - 1) 31) ≡ 31
+usual-is : (l : Bool) (m : ℕ) → m < 256 → (if key m then 31 else getD (months l) (m - 1) 31) ≡ 31
 unfolding months
 usual-is true m h = each (usual true) 0 256 tt m (omega arith) h
 usual-is false m h = each (usual false) 0 256 tt m (omega arith) h
 
 long : (y m : ℕ) → m < 256 → key m ≡ false → monthLength y m ≡ 31
 unfolding monthLength months
-long y m h e = sym (ap (λ (b : Bool). cond b 31 (getD (months (leap y)) (m - 1) 31)) e) ∙ usual-is (leap y) m h
+long y m h e = sym (ap (λ (b : Bool). if b then 31 else getD (months (leap y)) (m - 1) 31) e) ∙ usual-is (leap y) m h
 
 is-leap-requires : tie.Need-is-leap-requires
 is-leap-requires c κs = search needs

@@ -1,0 +1,2 @@
+pub mod Lossless
+pub mod Counts

@@ -1,0 +1,55 @@
+-- What a diagnostic says in document 01's words, and what reports do to the store and to the counts.
+-- Assumes nothing.
+use Prim.Native.Nat.{ℕ, _+_, min}
+use mathlib.Core.List.{List, [], _∷_}
+use lib.Dec.{ltb}
+use lib.ListN.{set}
+use Rattle.computed.specs.Choice.{if_then_else_}
+use Rattle.diagnostics.specs.declared.I2cDiagnosticKind.{I2cDiagnosticKind}
+use Rattle.diagnostics.specs.declared.I2cDiagnosticKind.the-variants.{NotModelled, ReadOnly, NoSuchRegister, Undefined}
+use Rattle.diagnostics.specs.declared.I2cDiagnostic.{I2cDiagnostic}
+use Rattle.diagnostics.specs.declared.Diagnostics.{Diagnostics}
+
+-- document 01's words for the kinds
+pub data Word : Type 0 where
+  UNDEFINED : Word
+  READONLY : Word
+  NOREGISTER : Word
+  NOTMODELLED : Word
+
+-- a register or a byte, or none, which is printed as two dashes
+pub data Column : Type 0 where
+  none : Column
+  number : ℕ → Column
+
+-- what a line says after chip and instant
+pub record Line : Type 0 where
+  pub word : Word
+  pub register : Column
+  pub byte : Column
+
+abbrev pub lineOf : I2cDiagnosticKind → Line
+lineOf (Undefined r b) = record { word = UNDEFINED; register = number r; byte = number b }
+lineOf (ReadOnly r) = record { word = READONLY; register = number r; byte = none }
+lineOf (NoSuchRegister b) = record { word = NOREGISTER; register = number b; byte = none }
+lineOf (NotModelled b) = record { word = NOTMODELLED; register = number 0x0E; byte = number b }
+
+-- the counts after a report: one more waits while fewer than 256 do, else one more is dropped, up to the largest number of 64 bits
+abbrev pub counted : Diagnostics → Diagnostics
+counted n = record {
+  waiting = if ltb (n .waiting) 256 then n .waiting + 1 else n .waiting;
+  dropped = if ltb (n .waiting) 256 then n .dropped else min (n .dropped + 1) 0xFFFF_FFFF_FFFF_FFFF;
+}
+
+-- the store after a report: it stands in the next free place of 256, or nowhere
+abbrev pub stored : Diagnostics → I2cDiagnostic → List I2cDiagnostic → List I2cDiagnostic
+stored n d s = if ltb (n .waiting) 256 then set s (n .waiting) d else s
+
+-- counts and store after a list of reports, the first one first
+abbrev pub countedAll : List I2cDiagnostic → Diagnostics → Diagnostics
+countedAll [] n = n
+countedAll (d ∷ ds) n = countedAll ds (counted n)
+
+abbrev pub storedAll : List I2cDiagnostic → Diagnostics → List I2cDiagnostic → List I2cDiagnostic
+storedAll [] n s = s
+storedAll (d ∷ ds) n s = storedAll ds (counted n) (stored n d s)

@@ -1,0 +1,105 @@
+-- A defined byte changes a time and a weekday within their ranges, and what a clock shows is in range.
+-- Assumes nothing.
+use Prim.Native.Nat.{ℕ, _+_, _-_, _%_, _≤_, _<_}
+use mathlib.Core.Bool.{Bool, true, false}
+use mathlib.Core.Path.{_≡_, refl, sym, subst}
+use native.Mathlib.Omega.{arith}
+use borrow.Author.Tests.{eqb-true}
+use lib.Dec.{leb, eqb}
+use Rattle.computed.specs.Choice.{if_then_else_}
+use Rattle.computed.proofs.Choice.{chosen}
+use Rattle.calendar.specs.Stated.{InRange}
+use Rattle.calendar.proofs.Laws.{month-bounds}
+use Rattle.calendar.specs.declared.DateTime.{DateTime}
+use Rattle.fields.specs.Table.{Meaning, undefined, sets, meaning}
+use Rattle.fields.proofs.Laws.{Bounds, in-field, field-bounds}
+use Rattle.ds3231.specs.Numbers.{range, day}
+use Rattle.ds3231.specs.Clock.{secondsAt, weekdayAt, offsetFor}
+use Rattle.ds3231.specs.Timing.{changedTime, changedWeekday, noted}
+use Rattle.ds3231.specs.declared.Clock.{Clock}
+use Rattle.ds3231.specs.declared.PendingTime.{PendingTime}
+use Rattle.ds3231.proofs.Facts.{TimeIn, PendingIn}
+
+-- a field in its range
+abbrev pub MeaningIn : Meaning → Type 0
+MeaningIn undefined = Unit {0}
+MeaningIn (sets r n flag) = Bounds r n
+
+pub meaning-in : (r b : ℕ) → MeaningIn (meaning r b)
+meaning-in r b = by (meaning r b) refl
+  where
+    by : (m : Meaning) → meaning r b ≡ m → MeaningIn m
+    by undefined e = tt
+    by (sets q n flag) e =
+        let f = in-field r b q n flag e in
+        subst (λ (x : ℕ). Bounds x n) (sym (f .0)) (field-bounds r n (f .1))
+
+by-register : (P : ℕ → Type 0) (r k : ℕ) {x y : ℕ} → (r ≡ k → P x) → P y → P (if eqb r k then x else y)
+by-register P r k f g = chosen P (eqb r k) (λ e. f (eqb-true r k e)) (λ e. g)
+
+-- a year of either century
+abbrev YearIn : ℕ → Type 0
+YearIn y = (2000 ≤ y) × (y ≤ 2199)
+
+century : (c : Bool) (y : ℕ) → y ≤ 99 → YearIn (2000 + (if c then 100 else 0) + y)
+century true y h = omega arith
+century false y h = omega arith
+
+changed-in : (m : Meaning) → MeaningIn m → (t : DateTime) → TimeIn t → TimeIn (changedTime m t)
+changed-in undefined i t h = h
+changed-in (sets r n flag) i t h =
+    let y = by-register YearIn r 5 (λ e. century flag (t .year % 100) (omega arith))
+    (by-register YearIn r 6 (λ e. century (leb 2100 (t .year)) n (i .year e)) (h .year-from, h .year-to)) in
+    let m = by-register (λ x. (1 ≤ x) × (x ≤ 12)) r 5 (i .month) (h .month-from, h .month-to) in
+    let d = by-register (λ x. (1 ≤ x) × (x ≤ 31)) r 4 (i .day) (h .day-from, h .day-to) in
+    record {
+      year-from = y .0;
+      year-to = y .1;
+      month-from = m .0;
+      month-to = m .1;
+      day-from = d .0;
+      day-to = d .1;
+      hour-to = by-register (λ x. x ≤ 23) r 2 (i .hour) (h .hour-to);
+      minute-to = by-register (λ x. x ≤ 59) r 1 (i .minute) (h .minute-to);
+      second-to = by-register (λ x. x ≤ 59) r 0 (i .second) (h .second-to);
+    }
+
+-- a weekday stays one
+abbrev pub InWeek : ℕ → Type 0
+InWeek w = (1 ≤ w) × (w ≤ 7)
+
+pub weekday-in : (m : Meaning) → MeaningIn m → (w : ℕ) → InWeek w → InWeek (changedWeekday m w)
+weekday-in undefined i w h = h
+weekday-in (sets r n flag) i w h = by-register InWeek r 3 (i .weekday) h
+
+pub noted-in : (m : Meaning) → MeaningIn m → (t : ℕ) (p : PendingTime) → PendingIn p → PendingIn (noted m t p)
+noted-in m i t p h =
+    let w = weekday-in m i (p .weekday) (h .week-from, h .week-to) in
+    record { time = changed-in m i (p .time) (h .time); week-from = w .0; week-to = w .1 }
+
+-- ---- the clock's parts
+
+pub offset-in : (w d : ℕ) → offsetFor w d ≤ 6
+unfolding offsetFor
+offset-in w d = omega arith
+
+pub seconds-in : (k : Clock) (t : ℕ) → secondsAt k t < range
+seconds-in k t = omega arith
+
+pub weekday-shown : (k : Clock) (t : ℕ) → InWeek (weekdayAt k t)
+weekday-shown k t = omega arith
+
+-- a time in range is one for a pending time
+pub time-in : (t : DateTime) → InRange t → TimeIn t
+time-in t v =
+    record {
+      year-from = v .date .year-from;
+      year-to = v .date .year-to;
+      month-from = v .date .month-from;
+      month-to = v .date .month-to;
+      day-from = v .date .day-from;
+      day-to = omega (arith, month-bounds (t .year) (t .month));
+      hour-to = v .hour-to;
+      minute-to = v .minute-to;
+      second-to = v .second-to;
+    }

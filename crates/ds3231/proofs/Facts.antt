@@ -1,0 +1,124 @@
+-- What `sound` tests, as facts about numbers, and back.
+-- Assumes nothing.
+use Prim.Native.Nat.{_-_, _≤_, _<_}
+use mathlib.Core.Bool.{Bool, true, false, not, _||_, false≢true}
+use mathlib.Core.Path.{_≡_, refl}
+use borrow.Author.Tests.{leb-true, ltb-true, eqb-true, le-leb, lt-ltb, eq-eqb}
+use lib.Dec.{leb, ltb, eqb}
+use lib.Bits.{bitAnd}
+use Rattle.computed.specs.Choice.{if_then_else_}
+use Rattle.computed.proofs.Choice.{both, both-true}
+use Rattle.calendar.specs.declared.DateTime.{DateTime}
+use Rattle.ds3231.specs.Numbers.{range, day}
+use Rattle.ds3231.specs.Calls.{soundTime, soundPending, soundTiming, inQuarters, soundRegisters, sound}
+use Rattle.ds3231.specs.declared.PendingTime.{PendingTime}
+use Rattle.ds3231.specs.declared.Timing.{Timing}
+use Rattle.ds3231.specs.declared.Registers.{Registers}
+use Rattle.ds3231.specs.declared.Ds3231.{Ds3231}
+
+-- ---- soundness as facts
+
+pub record TimeIn (t : DateTime) : Type 0 where
+  pub year-from : 2000 ≤ t .year
+  pub year-to : t .year ≤ 2199
+  pub month-from : 1 ≤ t .month
+  pub month-to : t .month ≤ 12
+  pub day-from : 1 ≤ t .day
+  pub day-to : t .day ≤ 31
+  pub hour-to : t .hour ≤ 23
+  pub minute-to : t .minute ≤ 59
+  pub second-to : t .second ≤ 59
+
+pub record PendingIn (p : PendingTime) : Type 0 where
+  pub time : TimeIn (p .time)
+  pub week-from : 1 ≤ p .weekday
+  pub week-to : p .weekday ≤ 7
+
+pub record TimingIn (c : Timing) : Type 0 where
+  pub pointer : c .pointer ≤ 0x12
+  pub base : c .clock .«base_seconds» < range
+  pub offset : c .clock .«weekday_offset» ≤ 6
+  pub pending : c .«is_pending» ≡ true → PendingIn (c .pending)
+
+pub record RegistersIn (g : Registers) : Type 0 where
+  pub quarters : inQuarters (g .«temperature_quarters») ≡ true
+  pub control : bitAnd (g .control) 0x20 ≡ 0
+  pub status : bitAnd (g .status) 0x8B ≡ g .status
+
+pub record Sound (c : Ds3231) : Type 0 where
+  pub timing : TimingIn (c .timing)
+  pub registers : RegistersIn (c .registers)
+  pub waiting : c .diagnostics .waiting ≤ 256
+
+-- from the facts to the test
+
+time-test : (t : DateTime) → TimeIn t → soundTime t ≡ true
+unfolding soundTime
+time-test t h =
+    both-true _ _ (both-true _ _ (both-true _ _ (both-true _ _ (both-true _ _ (both-true _ _ (both-true _ _ (both-true _ _
+    (le-leb _ _ (h .year-from)) (le-leb _ _ (h .year-to))) (le-leb _ _ (h .month-from))) (le-leb _ _ (h .month-to)))
+    (le-leb _ _ (h .day-from))) (le-leb _ _ (h .day-to))) (le-leb _ _ (h .hour-to))) (le-leb _ _ (h .minute-to))) (le-leb _ _ (h .second-to))
+
+pending-test : (q : Bool) (p : PendingTime) → (q ≡ true → PendingIn p) → (not q || soundPending p) ≡ true
+unfolding soundPending
+pending-test true p h = both-true _ _ (both-true _ _ (time-test _ (h refl .time)) (le-leb _ _ (h refl .week-from))) (le-leb _ _ (h refl .week-to))
+pending-test false p h = refl
+
+pub sound-test : (c : Ds3231) → Sound c → sound c ≡ true
+unfolding sound soundTiming soundRegisters
+sound-test c h =
+    let t = h .timing in
+    let g = h .registers in
+    both-true _ _ (both-true _ _
+    (both-true _ _ (both-true _ _ (both-true _ _ (le-leb _ _ (t .pointer)) (lt-ltb _ _ (t .base))) (le-leb _ _ (t .offset))) (pending-test (c .timing .«is_pending») (c .timing .pending) (t .pending)))
+    (both-true _ _ (both-true _ _ (g .quarters) (eq-eqb _ _ (g .control))) (eq-eqb _ _ (g .status))))
+    (le-leb _ _ (h .waiting))
+
+-- and back
+
+time-fact : (t : DateTime) → soundTime t ≡ true → TimeIn t
+unfolding soundTime
+time-fact t e =
+    let a = both _ (leb (t .second) 59) e in
+    let b = both _ (leb (t .minute) 59) (a .0) in
+    let c = both _ (leb (t .hour) 23) (b .0) in
+    let d = both _ (leb (t .day) 31) (c .0) in
+    let f = both _ (leb 1 (t .day)) (d .0) in
+    let g = both _ (leb (t .month) 12) (f .0) in
+    let h = both _ (leb 1 (t .month)) (g .0) in
+    let i = both (leb 2000 (t .year)) (leb (t .year) 2199) (h .0) in
+    record {
+      year-from = leb-true _ _ (i .0);
+      year-to = leb-true _ _ (i .1);
+      month-from = leb-true _ _ (h .1);
+      month-to = leb-true _ _ (g .1);
+      day-from = leb-true _ _ (f .1);
+      day-to = leb-true _ _ (d .1);
+      hour-to = leb-true _ _ (c .1);
+      minute-to = leb-true _ _ (b .1);
+      second-to = leb-true _ _ (a .1);
+    }
+
+pending-fact : (q : Bool) (p : PendingTime) → (not q || soundPending p) ≡ true → q ≡ true → PendingIn p
+unfolding soundPending
+pending-fact true p e r =
+    let a = both _ (leb (p .weekday) 7) e in
+    let b = both (soundTime (p .time)) (leb 1 (p .weekday)) (a .0) in
+    record { time = time-fact _ (b .0); week-from = leb-true _ _ (b .1); week-to = leb-true _ _ (a .1) }
+pending-fact false p e r = absurd (false≢true r)
+
+pub sound-fact : (c : Ds3231) → sound c ≡ true → Sound c
+unfolding sound soundTiming soundRegisters
+sound-fact c e =
+    let a = both _ (leb (c .diagnostics .waiting) 256) e in
+    let b = both (soundTiming (c .timing)) (soundRegisters (c .registers)) (a .0) in
+    let p = both _ (not (c .timing .«is_pending») || soundPending (c .timing .pending)) (b .0) in
+    let o = both _ (leb (c .timing .clock .«weekday_offset») 6) (p .0) in
+    let q = both (leb (c .timing .pointer) 0x12) (ltb (c .timing .clock .«base_seconds») range) (o .0) in
+    let s = both _ (eqb (bitAnd (c .registers .status) 0x8B) (c .registers .status)) (b .1) in
+    let r = both (inQuarters (c .registers .«temperature_quarters»)) (eqb (bitAnd (c .registers .control) 0x20) 0) (s .0) in
+    record {
+      timing = record { pointer = leb-true _ _ (q .0); base = ltb-true _ _ (q .1); offset = leb-true _ _ (o .1); pending = pending-fact (c .timing .«is_pending») (c .timing .pending) (p .1) };
+      registers = record { quarters = r .0; control = eqb-true _ _ (r .1); status = eqb-true _ _ (s .1) };
+      waiting = leb-true _ _ (a .1);
+    }

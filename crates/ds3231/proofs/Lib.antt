@@ -1,0 +1,11 @@
+pub mod Counting
+pub mod Masks
+pub mod Facts
+pub mod Bytes
+pub mod Places
+pub mod Follows
+pub mod Sounds
+pub mod ExactTime
+pub mod ReportTotal
+pub mod Witness
+pub mod Examples

@@ -1,0 +1,139 @@
+-- Power-on gives a sound chip, every call keeps a sound chip sound, and each register of a sound chip has a byte.
+-- Assumes nothing.
+use Prim.Native.Nat.{ℕ, _-_, _≤_, _<_}
+use mathlib.Core.Bool.{Bool, true, false, _||_, false≢true}
+use mathlib.Core.List.{List, [], _∷_}
+use mathlib.Core.Path.{_≡_, refl, ap₂}
+use native.Mathlib.Omega.{arith}
+use borrow.Author.Tests.{leb-true, leb-false, le-leb}
+use lib.Dec.{leb, eqb}
+use lib.Bits.{bitAnd}
+use Rattle.refusals.specs.Numbered.{Numbered, accepted, refused, andThen}
+use Rattle.computed.specs.Choice.{if_then_else_}
+use Rattle.computed.proofs.Choice.{chosen}
+use Rattle.calendar.specs.Stated.{InRange}
+use Rattle.calendar.proofs.Laws.{time-in-range, seconds-below, nearest-in-range}
+use Rattle.fields.specs.Table.{Meaning, meaning}
+use Rattle.diagnostics.proofs.Counts.{counted-all-in}
+use Rattle.ds3231.specs.Numbers.{range}
+use Rattle.ds3231.specs.Clock.{secondsAt}
+use Rattle.ds3231.specs.Timing.{isDefined, opened, noted, commit, accept, nextPointer, written, hasRead}
+use Rattle.ds3231.specs.Registers.{othersWritten}
+use Rattle.ds3231.specs.Calls.{inQuarters, sound, chipOn, Event, START, WRITE, READ, STOP, step, Call, bus, taking, chipBy, unless, verdict, chipAfter, registerByte, registerAnswer}
+use Rattle.ds3231.specs.Exact.{chipAfterAll}
+use Rattle.ds3231.specs.declared.Clock.{Clock}
+use Rattle.ds3231.specs.declared.Phase.{Phase}
+use Rattle.ds3231.specs.declared.Phase.the-variants.{Released, Pointer, Writing, Reading, Ignoring}
+use Rattle.ds3231.specs.declared.Timing.{Timing}
+use Rattle.ds3231.specs.declared.Registers.{Registers}
+use Rattle.ds3231.specs.declared.Ds3231.{Ds3231}
+use Rattle.ds3231.specs.declared.Ds3231Config.{Ds3231Config}
+use Rattle.ds3231.proofs.Masks.{control-clear, status-within}
+use Rattle.ds3231.proofs.Facts.{PendingIn, TimingIn, RegistersIn, Sound, sound-test, sound-fact}
+use Rattle.ds3231.proofs.Bytes.{MeaningIn, meaning-in, noted-in, offset-in, seconds-in, weekday-shown, time-in}
+
+opened-in : (k : Clock) (t : ℕ) → PendingIn (opened k t)
+opened-in k t =
+    let w = weekday-shown k t in
+    record { time = time-in _ (time-in-range (secondsAt k t) (seconds-in k t)); week-from = w .0; week-to = w .1 }
+
+-- ---- the timing's steps
+
+commit-in : (c : Timing) → TimingIn c → TimingIn (commit c)
+commit-in c h =
+    let k = chosen (λ (k : Clock). (k .«base_seconds» < range) × (k .«weekday_offset» ≤ 6)) (c .«is_pending»)
+    (λ e. (seconds-below _ (nearest-in-range (c .pending .time)), offset-in (c .pending .weekday) _)) (λ e. (h .base, h .offset)) in
+    record { pointer = h .pointer; base = k .0; offset = k .1; pending = λ e. absurd (false≢true e) }
+
+accept-in : (m : Meaning) → MeaningIn m → (t : ℕ) (c : Timing) → TimingIn c → TimingIn (accept m t c)
+accept-in m i t c h =
+    record { pointer = h .pointer; base = h .base; offset = h .offset; pending = by (isDefined m) }
+  where
+    found : PendingIn (if c .«is_pending» then c .pending else opened (c .clock) t)
+    found = chosen PendingIn (c .«is_pending») (h .pending) (λ e. opened-in (c .clock) t)
+
+    by : (d : Bool) → (d || c .«is_pending») ≡ true → PendingIn (if d then noted m t (if c .«is_pending» then c .pending else opened (c .clock) t) else c .pending)
+    by true e = noted-in m i t _ found
+    by false e = h .pending e
+
+next-in : (r : ℕ) → nextPointer r ≤ 0x12
+next-in r = chosen (λ x. x ≤ 0x12) (leb 0x12 r) (λ e. omega arith) (λ e. omega (arith, leb-false 0x12 r e))
+
+write-in : (p : Phase) (b t : ℕ) (c : Timing) → TimingIn c → TimingIn (written p b t c)
+write-in Released b t c h = h
+write-in Reading b t c h = h
+write-in Ignoring b t c h = h
+write-in Pointer b t c h =
+    chosen TimingIn (leb b 0x12) (λ e. record { pointer = leb-true b 0x12 e; base = h .base; offset = h .offset; pending = h .pending })
+    (λ e. record { pointer = h .pointer; base = h .base; offset = h .offset; pending = h .pending })
+write-in Writing b t c h =
+    let k = accept-in (meaning (c .pointer) b) (meaning-in (c .pointer) b) t c h in
+    record { pointer = next-in (c .pointer); base = k .base; offset = k .offset; pending = k .pending }
+
+read-in : (p : Phase) (t : ℕ) (c : Timing) → TimingIn c → TimingIn (hasRead p t c)
+read-in Released t c h = h
+read-in Pointer t c h = h
+read-in Writing t c h = h
+read-in Ignoring t c h = h
+read-in Reading t c h =
+    chosen TimingIn (leb 0x12 (c .pointer)) (λ e. record { pointer = omega arith; base = h .base; offset = h .offset; pending = h .pending })
+    (λ e. record { pointer = omega (arith, leb-false 0x12 (c .pointer) e); base = h .base; offset = h .offset; pending = h .pending })
+
+-- ---- the other registers
+
+written-in : (p : Phase) (r b t : ℕ) (g : Registers) → RegistersIn g → RegistersIn (othersWritten p r b t g)
+written-in Released r b t g h = h
+written-in Pointer r b t g h = h
+written-in Reading r b t g h = h
+written-in Ignoring r b t g h = h
+written-in Writing r b t g h =
+    record {
+      quarters = h .quarters;
+      control = chosen (λ x. bitAnd x 0x20 ≡ 0) (eqb r 0x0E) (λ e. control-clear b) (λ e. h .control);
+      status = chosen (λ x. bitAnd x 0x8B ≡ x) (eqb r 0x0F) (λ e. status-within (bitAnd (g .status) b) b) (λ e. h .status);
+    }
+
+-- ---- every call keeps a sound chip sound
+
+step-in : (e : Event) (c : Ds3231) → Sound c → TimingIn (step e c .timing) × RegistersIn (step e c .registers)
+step-in (START a r t) c h =
+    let k = commit-in (c .timing) (h .timing) in
+    (record { pointer = k .pointer; base = k .base; offset = k .offset; pending = k .pending }, h .registers)
+step-in (WRITE b t) c h = (write-in (c .timing .phase) b t (c .timing) (h .timing), written-in (c .timing .phase) (c .timing .pointer) b t (c .registers) (h .registers))
+step-in (READ k t) c h = (read-in (c .timing .phase) t (c .timing) (h .timing), h .registers)
+step-in (STOP t) c h =
+    let k = commit-in (c .timing) (h .timing) in
+    (record { pointer = k .pointer; base = k .base; offset = k .offset; pending = k .pending }, h .registers)
+
+pub call-sound : (k : Call) (c : Ds3231) → Sound c → Sound (chipBy k c)
+call-sound (bus s e) c h =
+    let i = step-in e c h in
+    record { timing = i .0; registers = i .1; waiting = counted-all-in (step e c .reports) (c .diagnostics) (h .waiting) }
+call-sound (taking s o) c h = record { timing = h .timing; registers = h .registers; waiting = omega arith }
+
+-- refused or not
+pub after-sound : (v : Numbered (Unit {0})) (k : Call) (c : Ds3231) → Sound c → Sound (unless v (chipBy k c) c)
+after-sound (accepted u) k c h = call-sound k c h
+after-sound (refused n vs) k c h = h
+
+pub sound-kept : (k : Call) (c : Ds3231) → sound c ≡ true → sound (chipAfter k c) ≡ true
+sound-kept k c e = sound-test _ (after-sound (verdict k c) k c (sound-fact c e))
+
+pub sound-run : (ks : List Call) (c : Ds3231) → sound c ≡ true → sound (chipAfterAll c ks) ≡ true
+sound-run [] c e = e
+sound-run (k ∷ ks) c e = sound-run ks (chipAfter k c) (sound-kept k c e)
+
+-- each register 0x00 to 0x12 of a sound chip has a byte
+pub register-byte : (c : Ds3231) (r t : ℕ) → sound c ≡ true → r ≤ 0x12 → registerAnswer c r t ≡ accepted (registerByte c r t)
+register-byte c r t e h =
+    ap₂ (λ (x y : Bool). andThen (if x then accepted tt else refused 10 []) (if y then accepted (registerByte c r t) else refused 9 [])) e (le-leb r 0x12 h)
+
+-- ---- power-on gives a sound chip
+
+pub on-sound : (f : Ds3231Config) → InRange (f .start) → inQuarters (f .«temperature_quarters») ≡ true → Sound (chipOn f)
+on-sound f v q =
+    record {
+      timing = record { pointer = omega arith; base = seconds-below (f .start) v; offset = offset-in _ _; pending = λ e. absurd (false≢true e) };
+      registers = record { quarters = q; control = refl; status = chosen (λ x. bitAnd x 0x8B ≡ x) (f .«oscillator_stopped») (λ e. refl) (λ e. refl) };
+      waiting = omega arith;
+    }

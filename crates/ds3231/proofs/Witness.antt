@@ -1,0 +1,254 @@
+-- The claim of the exact time is not empty: the case *hour and bad weekday* of document 01, then a burst that sets the time and one that reads 0x00 to 0x06. Each READ meets the claim's condition, and its byte is given.
+-- Assumes nothing.
+use Prim.Native.Nat.{ℕ, zero, suc, _+_, _*_, _-_, _/_, _%_, _≤_, _<_}
+use mathlib.Core.Bool.{Bool, true, false}
+use mathlib.Core.List.{List, [], _∷_, _++_}
+use mathlib.Core.Path.{_≡_, refl, sym, ap, ap₂, _∙_, subst}
+use native.Mathlib.Omega.{arith}
+use borrow.Author.Tests.{le-leb, le-ltb}
+use lib.Dec.{leb, lit<}
+use lib.IntN.{pos}
+use lib.ListN.{replicate, getD}
+use Rattle.refusals.specs.Numbered.{accepted, refused}
+use Rattle.computed.specs.Choice.{if_then_else_}
+use Rattle.calendar.specs.Stated.{InRange, dateTime, withDay, secondsOf, timeOf, monthLength, dayNumber}
+use Rattle.calendar.proofs.Laws.{in-range-accepted, time-of-seconds, seconds-below, seconds-formula, seconds-day, month-bounds}
+use Rattle.calendar.proofs.Examples.{examples}
+use Rattle.calendar.specs.declared.DateTime.{DateTime}
+use Rattle.fields.specs.Table.{sets, bit, toDigits, fromDigits, decimal, inField, plainMeaning, dialMeaning, monthMeaning, meaning, hourByte, fieldByte, timeBytes}
+use Rattle.diagnostics.specs.declared.ChipName.the-variants.{Ds3231}
+use Rattle.diagnostics.specs.declared.I2cDiagnostic.{I2cDiagnostic}
+use Rattle.diagnostics.specs.declared.I2cDiagnosticKind.the-variants.{ReadOnly}
+use Rattle.ds3231.specs.Numbers.{nanos, range, day}
+use Rattle.ds3231.specs.Calls.{inQuarters, checkedQuarters, chipOn, powerOn, Event, START, WRITE, READ, STOP, byte, Call, bus, verdict, answer}
+use Rattle.ds3231.specs.Model.{reads, Model, exact, dateWith, clamped, offsetWith, modelOn}
+use Rattle.ds3231.specs.Clock.{offsetFor}
+use Rattle.ds3231.proofs.Follows.{offset-same}
+use Rattle.ds3231.specs.Exact.{events, fullyLent, modelAfter, ReadsTime, chip, model}
+use Rattle.ds3231.specs.declared.Ds3231Config.{Ds3231Config}
+use Rattle.ds3231.proofs.Counting.{whole-count}
+use Rattle.ds3231.specs.Exact.{NeverFall, instant}
+use Rattle.ds3231.proofs.Sounds.{sound-run}
+use Rattle.ds3231.proofs.ExactTime.{exact-time, power-on-sound}
+use Rattle.computed.proofs.Claim.{first, rest}
+use mathlib.Core.Bool.{not, _&&_}
+use lib.Dec.{T, eqb, leb→le}
+use lib.ListN.{length}
+
+-- ---- the calls
+
+pub config : Ds3231Config
+config = record { start = dateTime 2026 1 1 0 0 0; «oscillator_stopped» = false; «temperature_quarters» = pos 100 }
+
+-- a store of 256 records
+pub store : List I2cDiagnostic
+store = replicate 256 (record { at = 0; chip = Ds3231; kind = ReadOnly 0 })
+
+pub on-store : List Event → List Call
+on-store [] = []
+on-store (e ∷ es) = bus store e ∷ on-store es
+
+-- *hour and bad weekday*, up to its READ
+pub case : List Event
+case =
+    START 0x68 false 1_000_000_000 ∷ WRITE 0x02 1_000_100_000 ∷ WRITE 0x61 1_000_200_000 ∷ WRITE 0x08 1_000_300_000 ∷ STOP 1_000_400_000
+    ∷ START 0x68 true 1_500_000_000 ∷ []
+
+-- the rest of it
+pub case-end : List Event
+case-end = READ false 1_500_100_000 ∷ STOP 1_500_200_000 ∷ []
+
+-- then 12:34:56 PM, weekday 3, 2124-02-28 is written, and the pointer set to 0 for a read
+pub setting : List Event
+setting =
+    START 0x68 false 2_000_000_000 ∷ WRITE 0x00 2_000_100_000 ∷ WRITE 0x56 2_000_200_000 ∷ WRITE 0x34 2_000_300_000 ∷ WRITE 0x72 2_000_400_000
+    ∷ WRITE 0x03 2_000_500_000 ∷ WRITE 0x28 2_000_600_000 ∷ WRITE 0x82 2_000_700_000 ∷ WRITE 0x24 2_000_800_000 ∷ STOP 2_000_900_000
+    ∷ START 0x68 false 2_100_000_000 ∷ WRITE 0x00 2_100_100_000 ∷ START 0x68 true 2_100_200_000 ∷ []
+
+-- ---- tests that compute
+
+rises : ℕ → List Event → Bool
+rises t [] = true
+rises t (e ∷ es) = leb t (instant e) && rises (instant e) es
+
+rises-never : (t : ℕ) (es : List Event) → T (rises t es) → NeverFall t es
+unfolding rises
+rises-never t [] h = tt
+rises-never t (e ∷ es) h = (leb→le t (instant e) (first (leb t (instant e)) (rises (instant e) es) h), rises-never (instant e) es (rest (leb t (instant e)) (rises (instant e) es) h))
+
+lent : (es : List Event) → fullyLent (on-store es) ≡ es
+unfolding on-store store
+lent [] = refl
+lent (e ∷ es) = ap (λ (l : List Event). e ∷ l) (lent es)
+
+-- ---- the power-on
+
+start-in : InRange (dateTime 2026 1 1 0 0 0)
+start-in = omega (arith, month-bounds 2026 1)
+
+on : powerOn config ≡ accepted (chipOn config)
+unfolding config checkedQuarters inQuarters
+on = rw (in-range-accepted (dateTime 2026 1 1 0 0 0) start-in)
+
+-- its seconds, from document 01's example
+seconds-on : secondsOf (dateTime 2026 1 1 0 0 0) ≡ 820_540_800
+seconds-on = let e = rw (in-range-accepted (dateTime 2026 1 1 0 0 0) start-in) at (examples .rows .1 .1 .0 .seconds-are) in cc
+
+-- ---- a READ of the witness
+
+-- the model after events, each lent a store of 256 records
+abbrev after : List Event → Model
+after es = modelAfter (modelOn config) es
+
+model-is : (es : List Event) → model config (chipOn config) (on-store es) ≡ after es
+model-is es = ap (modelAfter (modelOn config)) (exact-time config (chipOn config) on (on-store es) .feed ∙ lent es)
+
+allowed : (es : List Event) (t : ℕ) → verdict (bus store (READ false t)) (chip config (chipOn config) (on-store es)) ≡ accepted tt
+unfolding store
+allowed es t =
+    ap (λ (b : Bool). if not b then refused 10 [] else if not (eqb (length store) 256) then refused 11 [] else accepted tt)
+    (sound-run (on-store es) (chipOn config) (power-on-sound config (chipOn config) on))
+
+append : (xs ys : List Event) → on-store (xs ++ ys) ≡ on-store xs ++ on-store ys
+unfolding on-store
+append [] ys = refl
+append (x ∷ xs) ys = ap (λ (l : List Call). bus store x ∷ l) (append xs ys)
+
+-- a READ at t after the events es meets the claim's condition at register r, and answers b
+pub record Answers (es : List Event) (t r b : ℕ) : Type 0 where
+  pub condition : ReadsTime config (chipOn config) (on-store es) store false t
+  pub register : model config (chipOn config) (on-store es) .pointer ≡ r
+  pub answers : answer (bus store (READ false t)) (chip config (chipOn config) (on-store es)) ≡ accepted (byte b)
+
+read-at : (es : List Event) (t r b : ℕ) → after es .stage ≡ reads → after es .pointer ≡ r → r ≤ 6 → getD (after es .latched) r 0 ≡ b
+    → T (rises 0 (es ++ (READ false t ∷ []))) → Answers es t r b
+unfolding on-store
+read-at es t r b p q h l u =
+    let m = model-is es in
+    let calls = on-store es ++ (bus store (READ false t) ∷ []) in
+    let c : ReadsTime config (chipOn config) (on-store es) store false t =
+    record { not-refused = allowed es t; reading = ap (λ (x : Model). x .stage) m ∙ p; at-time = subst (λ (x : ℕ). x ≤ 6) (sym (ap (λ (x : Model). x .pointer) m ∙ q)) h } in
+    let f : events (chipOn config) calls ≡ es ++ (READ false t ∷ []) =
+    exact-time config (chipOn config) on calls .feed ∙ ap fullyLent (sym (append es (READ false t ∷ []))) ∙ lent (es ++ (READ false t ∷ [])) in
+    record {
+      condition = c;
+      register = ap (λ (x : Model). x .pointer) m ∙ q;
+      answers =
+          exact-time config (chipOn config) on calls .answers-model (subst (NeverFall 0) (sym f) (rises-never 0 _ u)) (on-store es) [] store false t refl c
+          ∙ ap₂ (λ (x : List ℕ) (y : ℕ). accepted (byte (getD x y 0))) (ap (λ (x : Model). x .latched) m) (ap (λ (x : Model). x .pointer) m ∙ q)
+          ∙ ap (λ (x : ℕ). accepted (byte x)) l;
+    }
+
+-- ---- the times
+
+-- a count less than a second past a time's seconds shows that time
+shows : (d : DateTime) (p e : ℕ) → InRange d → p + e < nanos → (secondsOf d * nanos + p + e) % (range * nanos) / nanos ≡ secondsOf d
+shows d p e v h =
+    let q : secondsOf d * nanos + p + e ≡ secondsOf d * nanos + (p + e) = omega arith in
+    ap (λ (x : ℕ). x % (range * nanos) / nanos) q ∙ whole-count range nanos (lit< tt) (lit< tt) (secondsOf d) (p + e)
+    ∙ in-range (secondsOf d) (p + e) (seconds-below d v) h
+  where
+    in-range : (s x : ℕ) → s < range → x < nanos → (s + x / nanos) % range ≡ s
+    in-range s x i j = omega arith
+
+first-of : (h m s : ℕ) → h ≤ 23 → m ≤ 59 → s ≤ 59 → InRange (dateTime 2026 1 1 h m s)
+first-of h m s p q r = omega (arith, month-bounds 2026 1)
+
+-- one second after power-on
+one-second : timeOf 820_540_801 ≡ dateTime 2026 1 1 0 0 1
+one-second =
+    let e : 820_540_801 ≡ secondsOf (dateTime 2026 1 1 0 0 1) = omega (arith, seconds-on, seconds-formula (dateTime 2026 1 1 0 0 0), seconds-formula (dateTime 2026 1 1 0 0 1)) in
+    ap timeOf e ∙ time-of-seconds (dateTime 2026 1 1 0 0 1) (first-of 0 0 1 (omega arith) (omega arith) (omega arith))
+
+-- a time in range keeps its day
+unclamped : (d : DateTime) → InRange d → clamped d ≡ d
+unclamped d v =
+    ap (λ (b : Bool). if b then withDay (monthLength (d .year) (d .month)) d else d)
+    (le-ltb (monthLength (d .year) (d .month)) (d .day) (v .date .day-to))
+
+-- ---- *hour and bad weekday*: the READ at 0x04 answers the date, 01
+
+-- 13:00:01, which the hour byte makes of 00:00:01
+afternoon : DateTime
+afternoon = dateTime 2026 1 1 13 0 1
+
+case-day : getD (after case .latched) 4 0 ≡ 0x01
+unfolding case config afternoon bit toDigits fromDigits decimal inField plainMeaning dialMeaning monthMeaning meaning fieldByte timeBytes
+case-day =
+    let v = first-of 13 0 1 (omega arith) (omega arith) (omega arith) in
+    ap (λ (s : ℕ).
+    toDigits (timeOf ((secondsOf (clamped (dateWith (sets 2 13 true) (timeOf ((s * nanos + 1_000_200_000) % (range * nanos) / nanos)))) * nanos
+    + (s * nanos + 1_000_200_000) % (range * nanos) % nanos + 499_800_000) % (range * nanos) / nanos) .day)) seconds-on
+    ∙ ap (λ (t : DateTime). toDigits (timeOf ((secondsOf (clamped (dateWith (sets 2 13 true) t)) * nanos + 200_000 + 499_800_000) % (range * nanos) / nanos) .day)) one-second
+    ∙ ap (λ (t : DateTime). toDigits (timeOf ((secondsOf t * nanos + 200_000 + 499_800_000) % (range * nanos) / nanos) .day)) (unclamped afternoon v)
+    ∙ ap (λ (n : ℕ). toDigits (timeOf n .day)) (shows afternoon 200_000 499_800_000 v (omega arith))
+    ∙ ap (λ (t : DateTime). toDigits (t .day)) (time-of-seconds afternoon v)
+
+pub hour-and-bad-weekday : Answers case 1_500_100_000 4 0x01
+unfolding case config rises bit toDigits fromDigits decimal inField plainMeaning dialMeaning monthMeaning meaning
+hour-and-bad-weekday = read-at case 1_500_100_000 4 0x01 refl refl (omega arith) case-day tt
+
+-- ---- what was set is what is read
+
+set-time : DateTime
+set-time = dateTime 2124 2 28 12 34 56
+
+set-in : InRange set-time
+unfolding set-time
+set-in = omega (arith, month-bounds 2124 2)
+
+-- the bytes set every field, whatever the time was
+date-set : (t : DateTime) → _≡_ {A = DateTime} (record { year = 2000 + (if leb 2100 (2000 + 100 + t .year % 100) then 100 else 0) + 24; month = 2; day = 28; hour = 12; minute = 34; second = 56 }) set-time
+unfolding set-time
+date-set t = ap (λ (b : Bool). dateTime (2000 + (if b then 100 else 0) + 24) 2 28 12 34 56) (le-leb 2100 (2000 + 100 + t .year % 100) (omega arith))
+
+weekday-set : (days n : ℕ) → n ≡ days → (n + offsetWith days 3) % 7 + 1 ≡ 3
+unfolding offsetFor
+weekday-set days n e = ap₂ (λ (x y : ℕ). (x + y) % 7 + 1) e (offset-same days 3 (omega arith)) ∙ omega arith
+
+-- the bytes that are latched once they are set, from any model with no transaction under way
+abbrev atRest : Model → Model
+atRest m = record { count = m .count; since = m .since; pointer = m .pointer; stage = m .stage; twelve = m .twelve; offset = m .offset; accepted = []; latched = m .latched }
+
+set-latched : (m : Model) → modelAfter (atRest m) setting .latched ≡ 0x56 ∷ 0x34 ∷ 0x72 ∷ 0x03 ∷ 0x28 ∷ 0x82 ∷ 0x24 ∷ []
+unfolding setting set-time bit toDigits fromDigits decimal inField plainMeaning dialMeaning monthMeaning meaning hourByte fieldByte timeBytes
+set-latched m =
+    ap (λ (d : DateTime).
+    let n = (secondsOf (clamped d) * nanos + 0 + 100_000_000) % (range * nanos) / nanos in
+    timeBytes (timeOf n) ((n / day + offsetWith (dayNumber (clamped d .year) (clamped d .month) (clamped d .day)) 3) % 7 + 1) true) (date-set (timeOf (exact (atRest m) 2_000_200_000 / nanos)))
+    ∙ ap (λ (d : DateTime).
+    let n = (secondsOf d * nanos + 0 + 100_000_000) % (range * nanos) / nanos in
+    timeBytes (timeOf n) ((n / day + offsetWith (dayNumber (d .year) (d .month) (d .day)) 3) % 7 + 1) true) (unclamped set-time set-in)
+    ∙ ap (λ (n : ℕ). timeBytes (timeOf n) ((n / day + offsetWith (dayNumber 2124 2 28) 3) % 7 + 1) true) (shows set-time 0 100_000_000 set-in (omega arith))
+    ∙ ap₂ (λ (t : DateTime) (w : ℕ). timeBytes t w true) (time-of-seconds set-time set-in) (weekday-set (dayNumber 2124 2 28) (secondsOf set-time / day) (seconds-day set-time set-in))
+
+-- the first k READs, and all that comes before them
+pub readings : ℕ → List Event
+readings zero = []
+readings (suc k) = readings k ++ (READ false (2_100_300_000 + k * 100_000) ∷ [])
+
+pub story : ℕ → List Event
+story k = case ++ (case-end ++ (setting ++ readings k))
+
+set-byte : (k : ℕ) → getD (modelAfter (atRest (after (case ++ case-end))) setting .latched) k 0 ≡ getD (0x56 ∷ 0x34 ∷ 0x72 ∷ 0x03 ∷ 0x28 ∷ 0x82 ∷ 0x24 ∷ []) k 0
+set-byte k = ap (λ (l : List ℕ). getD l k 0) (set-latched (after (case ++ case-end)))
+
+-- the READs of 0x00 to 0x06 answer the seven bytes that were written
+pub set-and-read :
+    Answers (story 0) 2_100_300_000 0 0x56
+    × Answers (story 1) 2_100_400_000 1 0x34
+    × Answers (story 2) 2_100_500_000 2 0x72
+    × Answers (story 3) 2_100_600_000 3 0x03
+    × Answers (story 4) 2_100_700_000 4 0x28
+    × Answers (story 5) 2_100_800_000 5 0x82
+    × Answers (story 6) 2_100_900_000 6 0x24
+unfolding story readings case case-end setting config rises bit toDigits fromDigits decimal inField plainMeaning dialMeaning monthMeaning meaning
+set-and-read = (
+  read-at (story 0) 2_100_300_000 0 0x56 refl refl (omega arith) (set-byte 0) tt,
+  read-at (story 1) 2_100_400_000 1 0x34 refl refl (omega arith) (set-byte 1) tt,
+  read-at (story 2) 2_100_500_000 2 0x72 refl refl (omega arith) (set-byte 2) tt,
+  read-at (story 3) 2_100_600_000 3 0x03 refl refl (omega arith) (set-byte 3) tt,
+  read-at (story 4) 2_100_700_000 4 0x28 refl refl (omega arith) (set-byte 4) tt,
+  read-at (story 5) 2_100_800_000 5 0x82 refl refl (omega arith) (set-byte 5) tt,
+  read-at (story 6) 2_100_900_000 6 0x24 refl refl (omega arith) (set-byte 6) tt,
+)

@@ -1,0 +1,275 @@
+-- The calls on one chip: what each answers and leaves, in document 01's numbers.
+-- Assumes nothing.
+use Prim.Native.Nat.{ℕ}
+use mathlib.Core.Bool.{Bool, true, false, not, _&&_, _||_}
+use mathlib.Core.List.{List, [], _∷_, _++_}
+use lib.Bits.{bitAnd}
+use lib.Dec.{leb, ltb, eqb}
+use lib.IntN.{ℤ, pos, negsuc}
+use lib.ListN.{length, getD, take, drop, replicate}
+use lib.Signed.{leZ}
+use Rattle.refusals.specs.Numbered.{Numbered, accepted, refused, andThen}
+use Rattle.computed.specs.Choice.{if_then_else_}
+use Rattle.calendar.specs.Stated.{checked, weekdayOf, monthLength}
+use Rattle.calendar.specs.declared.DateTime.{DateTime}
+use Rattle.fields.specs.Table.{toDigits, meaning}
+use Rattle.diagnostics.specs.Reports.{countedAll, storedAll}
+use Rattle.diagnostics.specs.declared.ChipName.the-variants.{Ds3231}
+use Rattle.diagnostics.specs.declared.I2cDiagnosticKind.{I2cDiagnosticKind}
+use Rattle.diagnostics.specs.declared.I2cDiagnosticKind.the-variants.{NotModelled, ReadOnly, NoSuchRegister, Undefined}
+use Rattle.diagnostics.specs.declared.I2cDiagnostic.{I2cDiagnostic}
+use Rattle.ds3231.specs.Numbers.{range}
+use Rattle.ds3231.specs.Clock.{timeAt, clockSet}
+use Rattle.ds3231.specs.Timing.{isDefined, shownAt, latch, started, written, hasRead, stopped}
+use Rattle.ds3231.specs.Registers.{otherByte, enablesOutput, othersWritten}
+use Rattle.ds3231.specs.declared.SecondsAt.the-variants.{NotWritten}
+use Rattle.ds3231.specs.declared.PendingTime.{PendingTime}
+use Rattle.ds3231.specs.declared.Phase.{Phase}
+use Rattle.ds3231.specs.declared.Phase.the-variants.{Released, Pointer, Writing, Reading, Ignoring}
+use Rattle.ds3231.specs.declared.Timing.{Timing}
+use Rattle.ds3231.specs.declared.Registers.{Registers}
+use Rattle.ds3231.specs.declared.Ds3231 as Chip
+use Rattle.ds3231.specs.declared.Ds3231Config.{Ds3231Config}
+
+-- ---- sound: document 01's list
+
+-- a pending time is valid apart from its day, which is 1 to 31, and its weekday 1 to 7
+unfoldable pub soundTime : DateTime → Bool
+soundTime t =
+    leb 2000 (t .year) && leb (t .year) 2199 && leb 1 (t .month) && leb (t .month) 12 && leb 1 (t .day) && leb (t .day) 31
+    && leb (t .hour) 23 && leb (t .minute) 59 && leb (t .second) 59
+
+unfoldable pub soundPending : PendingTime → Bool
+soundPending p = soundTime (p .time) && leb 1 (p .weekday) && leb (p .weekday) 7
+
+-- pointer, base seconds and offset in range
+unfoldable pub soundTiming : Timing → Bool
+soundTiming c =
+    leb (c .pointer) 0x12 && ltb (c .clock .«base_seconds») range && leb (c .clock .«weekday_offset») 6
+    && (not (c .«is_pending») || soundPending (c .pending))
+
+-- quarters from −512 to 511
+unfoldable pub inQuarters : ℤ → Bool
+inQuarters q = leZ (negsuc 511) q && leZ q (pos 511)
+
+-- quarters in range, control bit 5 clear, status within 0x8B
+unfoldable pub soundRegisters : Registers → Bool
+soundRegisters g =
+    inQuarters (g .«temperature_quarters») && eqb (bitAnd (g .control) 0x20) 0 && eqb (bitAnd (g .status) 0x8B) (g .status)
+
+unfoldable pub sound : Chip.Ds3231 → Bool
+sound c = soundTiming (c .timing) && soundRegisters (c .registers) && leb (c .diagnostics .waiting) 256
+
+-- ---- power-on
+
+-- what `pending` holds at power-on, which no call shows
+abbrev pub noPending : DateTime → PendingTime
+noPending start = record { time = start; weekday = 1; «first_at» = 0; «seconds_at» = NotWritten }
+
+abbrev pub timingOn : Ds3231Config → Timing
+timingOn f =
+    latch 0 (record {
+      phase = Released;
+      pointer = 0;
+      clock = clockSet (f .start) (weekdayOf (f .start)) 0;
+      «twelve_hour» = false;
+      latched = [];
+      «is_pending» = false;
+      pending = noPending (f .start);
+    })
+
+abbrev pub registersOn : Ds3231Config → Registers
+registersOn f = record {
+  alarms = replicate 7 0;
+  control = 0x1C;
+  status = if f .«oscillator_stopped» then 0x88 else 0x08;
+  «conversion_end» = 0;
+  aging = 0;
+  «temperature_quarters» = f .«temperature_quarters»;
+  «int_sqw_reported» = false;
+}
+
+abbrev pub chipOn : Ds3231Config → Chip.Ds3231
+chipOn f = record { timing = timingOn f; registers = registersOn f; diagnostics = record { waiting = 0; dropped = 0 } }
+
+-- refusals 1 to 6, then 7
+unfoldable pub checkedQuarters : ℤ → Numbered (Unit {0})
+checkedQuarters q = if inQuarters q then accepted tt else refused 7 (q ∷ [])
+
+abbrev pub powerOn : Ds3231Config → Numbered Chip.Ds3231
+powerOn f = andThen (checked (f .start)) (andThen (checkedQuarters (f .«temperature_quarters»)) (accepted (chipOn f)))
+
+-- ---- the calls that ask
+
+abbrev pub checkedChip : Chip.Ds3231 → Numbered (Unit {0})
+checkedChip c = if sound c then accepted tt else refused 10 []
+
+abbrev pub nowAnswer : Chip.Ds3231 → ℕ → Numbered DateTime
+nowAnswer c t = andThen (checkedChip c) (accepted (timeAt (c .timing .clock) t))
+
+abbrev pub droppedAnswer : Chip.Ds3231 → Numbered ℕ
+droppedAnswer c = andThen (checkedChip c) (accepted (c .diagnostics .dropped))
+
+-- the byte of a register: the live time at 0x00 to 0x06
+abbrev pub registerByte : Chip.Ds3231 → ℕ → ℕ → ℕ
+registerByte c r t = if leb r 0x06 then getD (shownAt (c .timing) t) r 0 else otherByte (c .registers) r t
+
+abbrev pub registerAnswer : Chip.Ds3231 → ℕ → ℕ → Numbered ℕ
+registerAnswer c r t = andThen (checkedChip c) (if leb r 0x12 then accepted (registerByte c r t) else refused 9 [])
+
+-- ---- the bus events
+
+-- START with an address and the read bit, WRITE with a byte, READ with the master's acknowledge, STOP, each with its instant
+pub data Event : Type 0 where
+  START : (address : ℕ) (read : Bool) (at : ℕ) → Event
+  WRITE : (byte : ℕ) (at : ℕ) → Event
+  READ : (acknowledged : Bool) (at : ℕ) → Event
+  STOP : (at : ℕ) → Event
+
+-- what a call answers that is not refused
+pub data Reply : Type 0 where
+  acknowledge : Bool → Reply
+  byte : ℕ → Reply
+  done : Reply
+  copied : ℕ → Reply
+
+-- what an event makes of timing and registers, the reports that it makes, and its answer
+pub record Step : Type 0 where
+  pub timing : Timing
+  pub registers : Registers
+  pub reports : List I2cDiagnostic
+  pub reply : Reply
+
+abbrev pub report : ℕ → I2cDiagnosticKind → I2cDiagnostic
+report t kind = record { at = t; chip = Ds3231; kind = kind }
+
+-- a commit of a day past the month's end: UNDEFINED at 0x04 with the day as digits
+abbrev pub commitReports : ℕ → Timing → List I2cDiagnostic
+commitReports t c =
+    if c .«is_pending» && ltb (monthLength (c .pending .time .year) (c .pending .time .month)) (c .pending .time .day)
+    then report t (Undefined 0x04 (toDigits (c .pending .time .day))) ∷ []
+    else []
+
+-- a byte written to register r: UNDEFINED at 0x00 to 0x06, NOTMODELLED once per power-on, READONLY at 0x11 and 0x12
+abbrev pub registerReports : ℕ → ℕ → ℕ → Registers → List I2cDiagnostic
+registerReports r b t g =
+    if leb r 0x06 then (if isDefined (meaning r b) then [] else report t (Undefined r b) ∷ [])
+    else if eqb r 0x0E && enablesOutput b && not (g .«int_sqw_reported») then report t (NotModelled b) ∷ []
+    else if leb 0x11 r then report t (ReadOnly r) ∷ []
+    else []
+
+-- WRITE in a phase: NOREGISTER for a pointer byte above 0x12
+abbrev pub writeReports : Phase → ℕ → ℕ → ℕ → Registers → List I2cDiagnostic
+writeReports Released r b t g = []
+writeReports Reading r b t g = []
+writeReports Ignoring r b t g = []
+writeReports Pointer r b t g = if leb b 0x12 then [] else report t (NoSuchRegister b) ∷ []
+writeReports Writing r b t g = registerReports r b t g
+
+-- a WRITE is acknowledged while addressed for writing
+abbrev pub writeReply : Phase → Reply
+writeReply Released = acknowledge false
+writeReply Reading = acknowledge false
+writeReply Pointer = acknowledge true
+writeReply Writing = acknowledge true
+writeReply Ignoring = acknowledge true
+
+-- a READ answers the latched time or the live register, and 0xFF while not addressed for reading
+abbrev pub readReply : Phase → ℕ → Chip.Ds3231 → Reply
+readReply Released t c = byte 0xFF
+readReply Pointer t c = byte 0xFF
+readReply Writing t c = byte 0xFF
+readReply Ignoring t c = byte 0xFF
+readReply Reading t c =
+    byte (if leb (c .timing .pointer) 0x06 then getD (c .timing .latched) (c .timing .pointer) 0 else otherByte (c .registers) (c .timing .pointer) t)
+
+abbrev pub step : Event → Chip.Ds3231 → Step
+step (START a r t) c = record {
+  timing = started a r t (c .timing);
+  registers = c .registers;
+  reports = commitReports t (c .timing);
+  reply = acknowledge (eqb a 0x68);
+}
+step (WRITE b t) c = record {
+  timing = written (c .timing .phase) b t (c .timing);
+  registers = othersWritten (c .timing .phase) (c .timing .pointer) b t (c .registers);
+  reports = writeReports (c .timing .phase) (c .timing .pointer) b t (c .registers);
+  reply = writeReply (c .timing .phase);
+}
+step (READ k t) c = record {
+  timing = hasRead (c .timing .phase) t (c .timing);
+  registers = c .registers;
+  reports = [];
+  reply = readReply (c .timing .phase) t c;
+}
+step (STOP t) c = record {
+  timing = stopped (c .timing);
+  registers = c .registers;
+  reports = commitReports t (c .timing);
+  reply = done;
+}
+
+abbrev pub stepChip : Step → Chip.Ds3231 → Chip.Ds3231
+stepChip s c = record { timing = s .timing; registers = s .registers; diagnostics = countedAll (s .reports) (c .diagnostics) }
+
+-- ---- the calls that change the chip, each with the store that it is lent, and taking with its output
+
+pub data Call : Type 0 where
+  bus : (store : List I2cDiagnostic) → Event → Call
+  taking : (store out : List I2cDiagnostic) → Call
+
+abbrev pub lentStore : Call → List I2cDiagnostic
+lentStore (bus s e) = s
+lentStore (taking s o) = s
+
+-- fewer records are lent than wait
+abbrev pub tooShort : Call → Chip.Ds3231 → Bool
+tooShort (bus s e) c = false
+tooShort (taking s o) c = ltb (length o) (c .diagnostics .waiting)
+
+-- the verdict: refusals 10, 11, 12
+abbrev pub verdict : Call → Chip.Ds3231 → Numbered (Unit {0})
+verdict k c =
+    if not (sound c) then refused 10 []
+    else if not (eqb (length (lentStore k)) 256) then refused 11 []
+    else if tooShort k c then refused 12 []
+    else accepted tt
+
+-- what a call that is not refused leaves and answers; taking empties the store's count and keeps the dropped count
+abbrev pub chipBy : Call → Chip.Ds3231 → Chip.Ds3231
+chipBy (bus s e) c = stepChip (step e c) c
+chipBy (taking s o) c = record { timing = c .timing; registers = c .registers; diagnostics = record { waiting = 0; dropped = c .diagnostics .dropped } }
+
+abbrev pub storeBy : Call → Chip.Ds3231 → List I2cDiagnostic
+storeBy (bus s e) c = storedAll (step e c .reports) (c .diagnostics) s
+storeBy (taking s o) c = s
+
+abbrev pub outBy : Call → Chip.Ds3231 → List I2cDiagnostic
+outBy (bus s e) c = []
+outBy (taking s o) c = take (c .diagnostics .waiting) s ++ drop (c .diagnostics .waiting) o
+
+abbrev pub replyBy : Call → Chip.Ds3231 → Reply
+replyBy (bus s e) c = step e c .reply
+replyBy (taking s o) c = copied (c .diagnostics .waiting)
+
+-- a refusal changes neither chip, store nor output
+abbrev pub lentOut : Call → List I2cDiagnostic
+lentOut (bus s e) = []
+lentOut (taking s o) = o
+
+abbrev pub unless : {A : Type 0} → Numbered (Unit {0}) → A → A → A
+unless (accepted u) after before = after
+unless (refused n vs) after before = before
+
+-- the chip, the store and the output after a call, and its answer
+abbrev pub chipAfter : Call → Chip.Ds3231 → Chip.Ds3231
+chipAfter k c = unless (verdict k c) (chipBy k c) c
+
+abbrev pub storeAfter : Call → Chip.Ds3231 → List I2cDiagnostic
+storeAfter k c = unless (verdict k c) (storeBy k c) (lentStore k)
+
+abbrev pub outAfter : Call → Chip.Ds3231 → List I2cDiagnostic
+outAfter k c = unless (verdict k c) (outBy k c) (lentOut k)
+
+abbrev pub answer : Call → Chip.Ds3231 → Numbered Reply
+answer k c = andThen (verdict k c) (accepted (replyBy k c))

@@ -1,0 +1,39 @@
+-- The running clock: the time, the weekday and the second that it shows at an instant, and how it is set.
+-- Assumes nothing.
+use Prim.Native.Nat.{ℕ, _+_, _-_, _/_, _%_}
+use Rattle.calendar.specs.Stated.{timeOf, secondsOf, dayNumber}
+use Rattle.calendar.specs.declared.DateTime.{DateTime}
+use Rattle.ds3231.specs.Numbers.{nanos, range, day}
+use Rattle.ds3231.specs.declared.Clock.{Clock}
+
+-- the whole seconds since the base: 0 at an instant below it
+abbrev pub elapsed : Clock → ℕ → ℕ
+elapsed k t = (t - k .«base_at») / nanos
+
+-- the seconds since 2000 that the clock shows
+abbrev pub secondsAt : Clock → ℕ → ℕ
+secondsAt k t = (k .«base_seconds» + elapsed k t) % range
+
+-- the time that it shows
+abbrev pub timeAt : Clock → ℕ → DateTime
+timeAt k t = timeOf (secondsAt k t)
+
+-- the weekday that it shows
+abbrev pub weekdayAt : Clock → ℕ → ℕ
+weekdayAt k t = (secondsAt k t / day + k .«weekday_offset») % 7 + 1
+
+-- the instant at which the second running at t began: t itself below the base
+abbrev pub secondStart : Clock → ℕ → ℕ
+secondStart k t = t - (t - k .«base_at») % nanos
+
+-- the offset, 0 to 6, with which the day number has the weekday
+unfoldable pub offsetFor : ℕ → ℕ → ℕ
+offsetFor weekday days = (weekday - 1 + 7 - days % 7) % 7
+
+-- the clock set to a time with a weekday, a second beginning at t
+abbrev pub clockSet : DateTime → ℕ → ℕ → Clock
+clockSet d weekday t = record {
+  «base_seconds» = secondsOf d;
+  «base_at» = t;
+  «weekday_offset» = offsetFor weekday (dayNumber (d .year) (d .month) (d .day));
+}

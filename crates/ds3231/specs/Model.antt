@@ -1,0 +1,218 @@
+-- Document 01's model of the exact time. It is fed the kind, instant, address, read bit and byte of each bus call that is not refused, and no answers. It shares with the chip's side `meaning`, `timeBytes` and the calendar, and nothing else.
+-- Assumes nothing.
+use Prim.Native.Nat.{ℕ, zero, suc, _+_, _*_, _-_, _/_, _%_}
+use mathlib.Core.Bool.{Bool, false}
+use mathlib.Core.List.{List, [], _∷_, _++_}
+use lib.Dec.{leb, ltb, eqb}
+use Rattle.computed.specs.Choice.{if_then_else_}
+use Rattle.calendar.specs.Stated.{secondsOf, timeOf, monthLength, dayNumber, withDay}
+use Rattle.calendar.specs.declared.DateTime.{DateTime}
+use Rattle.fields.specs.Table.{Meaning, undefined, sets, meaning, timeBytes}
+use Rattle.ds3231.specs.Numbers.{nanos, range, day}
+use Rattle.ds3231.specs.Calls.{Event, START, WRITE, READ, STOP}
+use Rattle.ds3231.specs.declared.Ds3231Config.{Ds3231Config}
+
+-- where the model stands in a transaction
+pub data Stage : Type 0 where
+  unaddressed : Stage
+  awaitsPointer : Stage
+  writes : Stage
+  drops : Stage
+  reads : Stage
+
+-- a byte accepted at a time register, and its instant
+pub record Accepted : Type 0 where
+  pub register : ℕ
+  pub value : ℕ
+  pub at : ℕ
+
+-- the exact count is `count` at the instant `since`; `accepted` are the accepted bytes of the transaction under way, the first one first
+pub record Model : Type 0 where
+  pub count : ℕ
+  pub since : ℕ
+  pub pointer : ℕ
+  pub stage : Stage
+  pub twelve : Bool
+  pub offset : ℕ
+  pub accepted : List Accepted
+  pub latched : List ℕ
+
+-- ---- the exact count
+
+-- it grows by one each nanosecond, modulo the range
+abbrev pub exact : Model → ℕ → ℕ
+exact m t = (m .count + (t - m .since)) % (range * nanos)
+
+-- its whole second
+abbrev pub wholeSecond : Model → ℕ → ℕ
+wholeSecond m t = exact m t / nanos
+
+-- the weekday then
+abbrev pub exactWeekday : Model → ℕ → ℕ
+exactWeekday m t = (wholeSecond m t / day + m .offset) % 7 + 1
+
+-- the seven bytes to latch
+abbrev pub exactBytes : Model → ℕ → List ℕ
+exactBytes m t = timeBytes (timeOf (wholeSecond m t)) (exactWeekday m t) (m .twelve)
+
+-- ---- the date that accepted bytes make, in order
+
+-- a month byte also sets the century, a year byte keeps it
+abbrev pub dateWith : Meaning → DateTime → DateTime
+dateWith undefined d = d
+dateWith (sets r n flag) d = record {
+  year = if eqb r 5 then 2000 + (if flag then 100 else 0) + d .year % 100 else if eqb r 6 then 2000 + (if leb 2100 (d .year) then 100 else 0) + n else d .year;
+  month = if eqb r 5 then n else d .month;
+  day = if eqb r 4 then n else d .day;
+  hour = if eqb r 2 then n else d .hour;
+  minute = if eqb r 1 then n else d .minute;
+  second = if eqb r 0 then n else d .second;
+}
+
+abbrev pub dateBy : List Accepted → DateTime → DateTime
+dateBy [] d = d
+dateBy (a ∷ l) d = dateBy l (dateWith (meaning (a .register) (a .value)) d)
+
+-- a day past the month's end becomes its last day
+abbrev pub clamped : DateTime → DateTime
+clamped d = if ltb (monthLength (d .year) (d .month)) (d .day) then withDay (monthLength (d .year) (d .month)) d else d
+
+-- the last accepted weekday byte, or the weekday given
+abbrev pub weekdayWith : Meaning → ℕ → ℕ
+weekdayWith undefined w = w
+weekdayWith (sets r n flag) w = if eqb r 3 then n else w
+
+abbrev pub weekdayBy : List Accepted → ℕ → ℕ
+weekdayBy [] w = w
+weekdayBy (a ∷ l) w = weekdayBy l (weekdayWith (meaning (a .register) (a .value)) w)
+
+-- the offset, 0 to 6, with which the day has the weekday: the first of o, o + 1, .. that gives it, of which k are left to try
+abbrev pub offsetFrom : ℕ → ℕ → ℕ → ℕ → ℕ
+offsetFrom zero o days w = o
+offsetFrom (suc k) o days w = if eqb ((days + o) % 7 + 1) w then o else offsetFrom k (o + 1) days w
+
+unfoldable pub offsetWith : ℕ → ℕ → ℕ
+offsetWith days w = offsetFrom 6 0 days w
+
+-- the instant of the last accepted seconds byte, if there is one
+pub data Instant : Type 0 where
+  never : Instant
+  at : ℕ → Instant
+
+abbrev pub secondsWith : Meaning → ℕ → Instant → Instant
+secondsWith undefined t i = i
+secondsWith (sets r n flag) t i = if eqb r 0 then at t else i
+
+abbrev pub lastSeconds : List Accepted → Instant → Instant
+lastSeconds [] i = i
+lastSeconds (a ∷ l) i = lastSeconds l (secondsWith (meaning (a .register) (a .value)) (a .at) i)
+
+-- ---- a transaction is closed
+
+-- the date set holds at the last seconds byte, with no part second; with none at the first accepted byte, with the part second that the count had there
+abbrev pub holdsAt : Instant → ℕ → ℕ
+holdsAt never first = first
+holdsAt (at t) first = t
+
+abbrev pub partSecond : Instant → ℕ → Model → ℕ
+partSecond never first m = exact m first % nanos
+partSecond (at t) first m = 0
+
+-- the date set by the accepted bytes l, the first at an instant
+abbrev pub dateSet : List Accepted → ℕ → Model → DateTime
+dateSet l first m = clamped (dateBy l (timeOf (wholeSecond m first)))
+
+abbrev pub closedBy : List Accepted → Model → Model
+closedBy [] m = m
+closedBy (a ∷ l) m =
+    let d = dateSet (a ∷ l) (a .at) m in
+    let i = lastSeconds (a ∷ l) never in
+    record {
+      count = secondsOf d * nanos + partSecond i (a .at) m;
+      since = holdsAt i (a .at);
+      pointer = m .pointer;
+      stage = m .stage;
+      twelve = m .twelve;
+      offset = offsetWith (dayNumber (d .year) (d .month) (d .day)) (weekdayBy (a ∷ l) (exactWeekday m (a .at)));
+      accepted = [];
+      latched = m .latched;
+    }
+
+abbrev pub closed : Model → Model
+closed m = closedBy (m .accepted) m
+
+-- ---- the events
+
+abbrev pub latching : ℕ → Model → Model
+latching t m = record { count = m .count; since = m .since; pointer = m .pointer; stage = m .stage; twelve = m .twelve; offset = m .offset; accepted = m .accepted; latched = exactBytes m t }
+
+abbrev pub standing : Stage → Model → Model
+standing s m = record { count = m .count; since = m .since; pointer = m .pointer; stage = s; twelve = m .twelve; offset = m .offset; accepted = m .accepted; latched = m .latched }
+
+abbrev pub pointing : ℕ → Model → Model
+pointing r m = record { count = m .count; since = m .since; pointer = r; stage = m .stage; twelve = m .twelve; offset = m .offset; accepted = m .accepted; latched = m .latched }
+
+-- a byte written to a register: an accepted time byte is kept, and an hour byte sets the mode at once
+abbrev pub keeps : Meaning → Accepted → List Accepted → List Accepted
+keeps undefined a l = l
+keeps (sets r n flag) a l = l ++ (a ∷ [])
+
+abbrev pub modeWith : Meaning → Bool → Bool
+modeWith undefined twelve = twelve
+modeWith (sets r n flag) twelve = if eqb r 2 then flag else twelve
+
+abbrev pub keeping : ℕ → ℕ → ℕ → Model → Model
+keeping r b t m = record {
+  count = m .count;
+  since = m .since;
+  pointer = m .pointer;
+  stage = m .stage;
+  twelve = modeWith (meaning r b) (m .twelve);
+  offset = m .offset;
+  accepted = keeps (meaning r b) (record { register = r; value = b; at = t }) (m .accepted);
+  latched = m .latched;
+}
+
+-- the pointer moves up by one, from 0x12 to 0
+abbrev pub movedPointer : ℕ → ℕ
+movedPointer r = if ltb r 0x12 then r + 1 else 0
+
+abbrev pub writeIn : Stage → ℕ → ℕ → Model → Model
+writeIn unaddressed b t m = m
+writeIn reads b t m = m
+writeIn drops b t m = m
+writeIn awaitsPointer b t m = if leb b 0x12 then standing writes (pointing b m) else standing drops m
+writeIn writes b t m = pointing (movedPointer (m .pointer)) (keeping (m .pointer) b t m)
+
+-- a READ, addressed for reading, moves the pointer from 0x12 to 0, where it latches anew
+abbrev pub wrapsIn : Stage → ℕ → Bool
+wrapsIn unaddressed r = false
+wrapsIn awaitsPointer r = false
+wrapsIn writes r = false
+wrapsIn drops r = false
+wrapsIn reads r = leb 0x12 r
+
+abbrev pub wraps : Model → Bool
+wraps m = wrapsIn (m .stage) (m .pointer)
+
+abbrev pub readIn : Stage → ℕ → Model → Model
+readIn unaddressed t m = m
+readIn awaitsPointer t m = m
+readIn writes t m = m
+readIn drops t m = m
+readIn reads t m = if leb 0x12 (m .pointer) then latching t (pointing 0 m) else pointing (m .pointer + 1) m
+
+-- START addresses the model by its read bit if it names 0x68
+abbrev pub addressedBy : ℕ → Bool → Stage
+addressedBy address read = if eqb address 0x68 then (if read then reads else awaitsPointer) else unaddressed
+
+abbrev pub fed : Event → Model → Model
+fed (START a r t) m = standing (addressedBy a r) (latching t (closed m))
+fed (WRITE b t) m = writeIn (m .stage) b t m
+fed (READ k t) m = readIn (m .stage) t m
+fed (STOP t) m = standing unaddressed (closed m)
+
+-- at power-on: the configured seconds at instant 0, unaddressed, 24-hour mode, offset 5
+abbrev pub modelOn : Ds3231Config → Model
+modelOn f =
+    latching 0 (record { count = secondsOf (f .start) * nanos; since = 0; pointer = 0; stage = unaddressed; twelve = false; offset = 5; accepted = []; latched = [] })

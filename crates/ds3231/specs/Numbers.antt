@@ -1,0 +1,15 @@
+-- Numbers of document 01.
+-- Assumes nothing.
+use Prim.Native.Nat.{ℕ}
+
+-- the nanoseconds of a second
+abbrev pub nanos : ℕ
+nanos = 1_000_000_000
+
+-- the seconds of a day
+abbrev pub day : ℕ
+day = 86_400
+
+-- the seconds from 2000-01-01 to the end of 2199, after which the clock begins again
+abbrev pub range : ℕ
+range = 6_311_433_600

@@ -1,0 +1,67 @@
+-- The registers outside the time, 0x07 to 0x12: their bytes, and what a write does to them.
+-- Assumes nothing.
+use Prim.Native.Nat.{ℕ, _+_, _*_, _-_, _%_, min}
+use mathlib.Core.Bool.{Bool, not, _&&_, _||_}
+use lib.Bits.{bitAnd, bitOr}
+use lib.Dec.{leb, ltb, eqb}
+use lib.IntN.{ℤ, pos, negsuc}
+use lib.ListN.{getD, set}
+use lib.Signed.{shrZ}
+use Rattle.computed.specs.Choice.{if_then_else_}
+use Rattle.ds3231.specs.declared.Phase.{Phase}
+use Rattle.ds3231.specs.declared.Phase.the-variants.{Released, Pointer, Writing, Reading, Ignoring}
+use Rattle.ds3231.specs.declared.Registers.{Registers}
+
+-- a conversion runs at every instant below its end
+abbrev pub converting : Registers → ℕ → Bool
+converting g t = ltb t (g .«conversion_end»)
+
+-- the low eight bits of a signed number
+abbrev pub lowByte : ℤ → ℕ
+lowByte (pos n) = n % 256
+lowByte (negsuc n) = 255 - n % 256
+
+-- the temperature: the quarters shifted right by 2 as a signed number, low eight bits; their lowest two bits, in bits 7 and 6
+abbrev pub temperatureHigh : ℤ → ℕ
+temperatureHigh q = lowByte (shrZ q 4)
+
+abbrev pub temperatureLow : ℤ → ℕ
+temperatureLow q = lowByte q % 4 * 64
+
+-- the byte at 0x07 to 0x12: alarms, control, status, aging, temperature
+unfoldable pub otherByte : Registers → ℕ → ℕ → ℕ
+otherByte g r t =
+    if leb r 0x0D then getD (g .alarms) (r - 7) 0
+    else if eqb r 0x0E then bitOr (g .control) (if converting g t then 0x20 else 0)
+    else if eqb r 0x0F then bitOr (g .status) (if converting g t then 0x04 else 0)
+    else if eqb r 0x10 then g .aging
+    else if eqb r 0x11 then temperatureHigh (g .«temperature_quarters»)
+    else temperatureLow (g .«temperature_quarters»)
+
+-- a control byte that enables the output that is not modelled: bit 2 clear, or set with bit 0 or 1
+abbrev pub enablesOutput : ℕ → Bool
+enablesOutput b = eqb (bitAnd b 0x04) 0 || not (eqb (bitAnd b 0x03) 0)
+
+-- a control byte with bit 5 starts a conversion of 200 ms if none runs, its end saturating
+abbrev pub startsConversion : ℕ → ℕ → Registers → Bool
+startsConversion b t g = not (eqb (bitAnd b 0x20) 0) && not (converting g t)
+
+-- a byte written to register r at t
+abbrev pub registersWritten : ℕ → ℕ → ℕ → Registers → Registers
+registersWritten r b t g = record {
+  alarms = if leb 0x07 r && leb r 0x0D then set (g .alarms) (r - 7) b else g .alarms;
+  control = if eqb r 0x0E then bitAnd b 0xDF else g .control;
+  status = if eqb r 0x0F then bitOr (bitAnd (bitAnd (g .status) b) 0x83) (bitAnd b 0x08) else g .status;
+  «conversion_end» = if eqb r 0x0E && startsConversion b t g then min (t + 200_000_000) 0xFFFF_FFFF_FFFF_FFFF else g .«conversion_end»;
+  aging = if eqb r 0x10 then b else g .aging;
+  «temperature_quarters» = g .«temperature_quarters»;
+  «int_sqw_reported» = eqb r 0x0E && enablesOutput b || g .«int_sqw_reported»;
+}
+
+-- WRITE in a phase
+abbrev pub othersWritten : Phase → ℕ → ℕ → ℕ → Registers → Registers
+othersWritten Released r b t g = g
+othersWritten Pointer r b t g = g
+othersWritten Reading r b t g = g
+othersWritten Ignoring r b t g = g
+othersWritten Writing r b t g = registersWritten r b t g

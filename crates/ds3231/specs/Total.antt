@@ -1,0 +1,40 @@
+-- The report total: reports since power-on, counted over the events, are those taken, waiting and dropped, while fewer than 2^64 were made.
+-- Assumes nothing.
+use Prim.Native.Nat.{ℕ, _+_, _^_, _<_}
+use mathlib.Core.List.{List, [], _∷_}
+use mathlib.Core.Path.{_≡_}
+use lib.ListN.{length}
+use Rattle.refusals.specs.Numbered.{Numbered, accepted, refused}
+use Rattle.ds3231.specs.Calls.{step, Reply, acknowledge, byte, done, copied, Call, bus, taking, powerOn, verdict, chipAfter, answer}
+use Rattle.ds3231.specs.Exact.{chipAfterAll}
+use Rattle.ds3231.specs.declared.Ds3231.{Ds3231}
+use Rattle.ds3231.specs.declared.Ds3231Config.{Ds3231Config}
+
+-- the reports of a call: those of its event, if it is not refused
+abbrev pub reportsOf : Numbered (Unit {0}) → Call → Ds3231 → ℕ
+reportsOf (refused n vs) k c = 0
+reportsOf (accepted u) (bus s e) c = length (step e c .reports)
+reportsOf (accepted u) (taking s o) c = 0
+
+abbrev pub reported : Ds3231 → List Call → ℕ
+reported c [] = 0
+reported c (k ∷ ks) = reportsOf (verdict k c) k c + reported (chipAfter k c) ks
+
+-- the records taken: what takings that are not refused answer
+abbrev pub takenIn : Reply → ℕ
+takenIn (acknowledge b) = 0
+takenIn (byte b) = 0
+takenIn done = 0
+takenIn (copied n) = n
+
+abbrev pub takenOf : Numbered Reply → ℕ
+takenOf (refused n vs) = 0
+takenOf (accepted r) = takenIn r
+
+abbrev pub taken : Ds3231 → List Call → ℕ
+taken c [] = 0
+taken c (k ∷ ks) = takenOf (answer k c) + taken (chipAfter k c) ks
+
+abbrev pub ReportTotal : Type 0
+ReportTotal = (f : Ds3231Config) (c₀ : Ds3231) → powerOn f ≡ accepted c₀ → (calls : List Call) → reported c₀ calls < 2 ^ 64
+    → reported c₀ calls ≡ taken c₀ calls + chipAfterAll c₀ calls .diagnostics .waiting + chipAfterAll c₀ calls .diagnostics .dropped

@@ -1,0 +1,4 @@
+pub mod Laws
+pub mod Lossless
+pub mod Examples
+pub mod Digits

@@ -1,0 +1,35 @@
+-- What `decode` answers, as the table of the time registers has it, and what `from_bcd` answers.
+-- Assumes nothing.
+use Prim.Native.Nat.{ℕ}
+use mathlib.Core.Bool.{false, _&&_}
+use lib.Dec.{leb}
+use Rattle.computed.specs.Choice.{if_then_else_}
+use Rattle.fields.specs.Table.{Meaning, undefined, sets, fromDigits, decimal}
+use Rattle.fields.specs.declared.Field.{Field}
+use Rattle.fields.specs.declared.Field.the-variants.{Second, Minute, Hour, Weekday, Day, Month, Year}
+use Rattle.fields.specs.declared.Decoded.{Decoded}
+use Rattle.fields.specs.declared.Decoded.the-variants.{Defined, Undefined}
+use Rattle.fields.specs.declared.FromBcd.{FromBcd}
+use Rattle.fields.specs.declared.FromBcd.the-variants.{Some, None}
+
+-- the register of a field, its value and its flag
+abbrev pub fieldMeaning : Field → Meaning
+fieldMeaning (Second s) = sets 0 s false
+fieldMeaning (Minute m) = sets 1 m false
+fieldMeaning (Hour h twelve) = sets 2 h twelve
+fieldMeaning (Weekday w) = sets 3 w false
+fieldMeaning (Day d) = sets 4 d false
+fieldMeaning (Month m century) = sets 5 m century
+fieldMeaning (Year y) = sets 6 y false
+
+abbrev pub decodedMeaning : Decoded → Meaning
+decodedMeaning (Defined f) = fieldMeaning f
+decodedMeaning Undefined = undefined
+
+-- the number of two digits, none where a digit exceeds 9
+abbrev pub ofDigits : ℕ → FromBcd
+ofDigits b = if decimal b then Some (fromDigits b) else None
+
+-- the number of two digits where it is from low to high
+abbrev pub ofDigitsWithin : ℕ → ℕ → ℕ → FromBcd
+ofDigitsWithin low high b = if decimal b && (leb low (fromDigits b) && leb (fromDigits b) high) then Some (fromDigits b) else None

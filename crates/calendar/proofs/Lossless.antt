@@ -19,14 +19,14 @@ use Rattle.calendar.specs.declared.FromSecondsResult as FromSecondsResul
 use Rattle.calendar.specs.declared.SecondsResult as SecondsResult
 use Rattle.calendar.specs.declared.WeekdayResult as WeekdayResult
 
-abbrev natural : ℤ → ℕ
+abbrev pub natural : ℤ → ℕ
 natural (pos n) = n
 natural (negsuc n) = 0
 
-abbrev value : List ℤ → ℕ → ℕ
+abbrev pub value : List ℤ → ℕ → ℕ
 value vs k = natural (getD vs k (pos 0))
 
-abbrev errorOf : ℕ → List ℤ → DateTimeError
+abbrev pub errorOf : ℕ → List ℤ → DateTimeError
 errorOf n vs =
     if eqb n 1 then Year (value vs 0)
     else if eqb n 2 then Month (value vs 0)

@@ -1,0 +1,57 @@
+-- What a call answers on a sound chip and on one that is not, from what the soundness test answered.
+-- Assumes nothing.
+use Prim.Native.Nat.{_≤_}
+use mathlib.Core.Bool.{Bool, true, false, not}
+use mathlib.Core.List.{[]}
+use mathlib.Core.Path.{_≡_, sym, ap, _∙_}
+use borrow.Author.Tests.{not-true, not-false}
+use Rattle.refusals.specs.Numbered.{Numbered, accepted, refused, andThen}
+use Rattle.computed.specs.Choice.{if_then_else_}
+use Rattle.diagnostics.specs.Reports.{countedAll}
+use Rattle.ds3231.specs.Calls.{sound, checkedChip, Event, step, stepChip, unless}
+use Rattle.ds3231.specs.declared.Ds3231.{Ds3231}
+use Rattle.ds3231.specs.declared.Timing.{Timing}
+use Rattle.ds3231.specs.declared.Registers.{Registers}
+use Rattle.ds3231.proofs.Facts.{sound-fact}
+use Rattle.ds3231_step.specs.Answers.{reportsOf, eventNumbered, SteppedBy}
+use Rattle.ds3231_step.specs.declared.EventAnswer.{EventAnswer}
+use Rattle.ds3231_step.specs.declared.EventAnswer.the-variants.{NotSound}
+use Rattle.ds3231_step.specs.declared.Report.{Report}
+use Rattle.ds3231_step.specs.declared.Report.the-variants.{None}
+use Rattle.ds3231_step.specs.declared.Stepped.{Stepped}
+
+module _ (c : Ds3231) (b : Bool) (e : b ≡ sound c) where
+  pub is-sound : not b ≡ false → sound c ≡ true
+  is-sound n = sym e ∙ not-false b n
+
+  pub checked-yes : not b ≡ false → checkedChip c ≡ accepted tt
+  checked-yes n = ap (λ (x : Bool). if x then accepted tt else refused 10 []) (is-sound n)
+
+  pub checked-no : not b ≡ true → checkedChip c ≡ refused 10 []
+  checked-no n = ap (λ (x : Bool). if x then accepted tt else refused 10 []) (sym e ∙ not-true b n)
+
+-- a pending time of a sound chip has a weekday
+pub pending-weekday : (c : Ds3231) → sound c ≡ true → c .timing .«is_pending» ≡ true → 1 ≤ c .timing .pending .weekday
+pending-weekday c s p = sound-fact c s .timing .pending p .week-from
+
+-- an event that is refused
+pub refused-step : (e : Event) (c : Ds3231) (r : Stepped) → checkedChip c ≡ refused 10 [] → r ≡ record { chip = c; answer = NotSound; report = None } → SteppedBy e c r
+refused-step e c r n q =
+    record {
+      answer = ap (λ (x : Stepped). eventNumbered (x .answer)) q ∙ sym (ap (λ (v : Numbered (Unit {0})). andThen v (accepted (step e c .reply))) n);
+      chip = ap (λ (x : Stepped). x .chip) q ∙ sym (ap (λ (v : Numbered (Unit {0})). unless v (stepChip (step e c) c) c) n);
+      reports = ap (λ (x : Stepped). reportsOf (x .report)) q ∙ sym (ap (λ (v : Numbered (Unit {0})). unless v (step e c .reports) []) n);
+    }
+
+-- an event that is not
+pub done-step : (e : Event) (c : Ds3231) (t : Timing) (g : Registers) (a : EventAnswer) (p : Report) (r : Stepped) → checkedChip c ≡ accepted tt
+    → r ≡ record { chip = record { timing = t; registers = g; diagnostics = countedAll (reportsOf p) (c .diagnostics) }; answer = a; report = p }
+    → t ≡ step e c .timing → g ≡ step e c .registers → eventNumbered a ≡ accepted (step e c .reply) → reportsOf p ≡ step e c .reports → SteppedBy e c r
+done-step e c t g a p r n q et eg ea ep =
+    record {
+      answer = ap (λ (x : Stepped). eventNumbered (x .answer)) q ∙ ea ∙ sym (ap (λ (v : Numbered (Unit {0})). andThen v (accepted (step e c .reply))) n);
+      chip =
+          ap (λ (x : Stepped). x .chip) q ∙ (λ j. record { timing = et j; registers = eg j; diagnostics = countedAll (ep j) (c .diagnostics) })
+          ∙ sym (ap (λ (v : Numbered (Unit {0})). unless v (stepChip (step e c) c) c) n);
+      reports = ap (λ (x : Stepped). reportsOf (x .report)) q ∙ ep ∙ sym (ap (λ (v : Numbered (Unit {0})). unless v (step e c .reports) []) n);
+    }

@@ -1,0 +1,7 @@
+pub mod ClockLaws
+pub mod EventLaws
+pub mod Lossless
+pub mod PowerLaws
+pub mod RegisterLaws
+pub mod ReportLaws
+pub mod TimingLaws

@@ -1,0 +1,26 @@
+-- `ds3231_step::events::read_register` meets its contract.
+-- Assumes nothing.
+use borrow.Author.Tests.{le-leb, lt-leb}
+use Rattle.ds3231.proofs.Facts.{sound-fact}
+use borrow.Author.Needs.{needs}
+use Rattle.ds3231_step.proofs.events.read_register.Statement.{statement}
+use Rattle.ds3231_step.proofs.events.read_register.Tie as tie
+
+cast-index : tie.Need-cast-index
+cast-index c = search needs
+
+array-read-result : tie.Need-array-read-result
+array-read-result c = search needs
+
+returns : tie.Need-returns
+returns c = rw (le-leb _ _ (c .before .if1 .taken))
+
+other-register-requires : tie.Need-other-register-requires
+other-register-requires c κs = (c .before .if1 .left, sound-fact _ (c .before .before .before .pre) .timing .pointer)
+
+returns-2 : tie.Need-returns-2
+returns-2 c = rw (lt-leb _ _ (c .before .before .if1 .left), c .other-register .ensures)
+
+pub read-register-spec : {M : Type 1} → statement M
+read-register-spec =
+    tie.close (tie.spec cast-index array-read-result returns other-register-requires returns-2)

@@ -1,0 +1,66 @@
+// The calls that ask: `now`, `register` and the dropped count.
+ghost use mathlib.Core.Bool.{true};
+ghost use mathlib.Core.Path.{_≡_};
+ghost use Prim.Native.Nat.{_≤_};
+ghost use Rattle.ds3231.specs.Calls.{sound, nowAnswer, registerByte, registerAnswer, droppedAnswer};
+ghost use Rattle.ds3231_step.specs.Answers.{nowNumbered, registerNumbered, droppedNumbered};
+use crate::DroppedResult;
+use crate::NowResult;
+use crate::RegisterResult;
+use crate::clock;
+use crate::registers;
+use crate::registers::LAST_REGISTER;
+use crate::registers::YEAR;
+use crate::sound::is_sound;
+use crate::timing;
+use ds3231::Ds3231;
+
+// The time at `at`.
+pub fn now(chip: Ds3231, at: u64) -> NowResult
+    ensures { λ r. ⌜ nowNumbered r ≡ nowAnswer chip at ⌝ }
+{
+    if !is_sound(chip) {
+        return NowResult::NotSound;
+    }
+    let timing = chip.timing;
+    let clock = timing.clock;
+    NowResult::Ok(clock::now(clock, at))
+}
+
+// What a register holds at `at`: the live time at 0x00 to 0x06.
+pub fn register(chip: Ds3231, register: u8, at: u64) -> RegisterResult
+    ensures { λ r. ⌜ registerNumbered r ≡ registerAnswer chip register at ⌝ }
+{
+    if !is_sound(chip) {
+        return RegisterResult::NotSound;
+    }
+    if register > LAST_REGISTER {
+        return RegisterResult::NoSuchRegister;
+    }
+    RegisterResult::Ok(register_byte(chip, register, at))
+}
+
+fn register_byte(chip: Ds3231, register: u8, at: u64) -> u8
+    requires { ⌜ (sound chip ≡ true) × (register ≤ 0x12) ⌝ }
+    ensures { λ r. ⌜ r ≡ registerByte chip register at ⌝ }
+{
+    if register <= YEAR {
+        let timing = chip.timing;
+        let bytes = timing::time_registers(timing, at);
+        let index = register as usize;
+        return bytes[index];
+    }
+    let registers = chip.registers;
+    registers::other_register(registers, register, at)
+}
+
+// How many reports were dropped because 256 were waiting.
+pub fn dropped_diagnostics(chip: Ds3231) -> DroppedResult
+    ensures { λ r. ⌜ droppedNumbered r ≡ droppedAnswer chip ⌝ }
+{
+    if !is_sound(chip) {
+        return DroppedResult::NotSound;
+    }
+    let diagnostics = chip.diagnostics;
+    DroppedResult::Ok(diagnostics.dropped)
+}

@@ -1,0 +1,79 @@
+// The DS3231 by value: power-on, `now`, `register`, the dropped count, soundness, and the four events with no store.
+// Modules: `clock`, `timing` and `registers` have the Rust's functions on the parts of the chip, `reports` what is
+// reported, `sound` the soundness test, and `power`, `ask` and `events` the public calls.
+use calendar::DateTime;
+use calendar::DateTimeError;
+use diagnostics::I2cDiagnostic;
+use ds3231::Ds3231;
+
+mod ask;
+mod clock;
+mod events;
+mod power;
+mod registers;
+mod reports;
+mod sound;
+mod timing;
+
+pub use ask::dropped_diagnostics;
+pub use ask::now;
+pub use ask::register;
+pub use events::address;
+pub use events::read;
+pub use events::stop;
+pub use events::write;
+pub use power::power_on;
+pub use sound::is_sound;
+
+// What power-on answers: on, or why not.
+pub enum PowerOnAnswer {
+    On,
+    Start(DateTimeError),
+    Temperature(i16),
+}
+
+// Power-on's answer, with the chip. Where power-on is refused the chip is not sound.
+pub struct PowerOn {
+    pub answer: PowerOnAnswer,
+    pub chip: Ds3231,
+}
+
+// What `now` answers.
+pub enum NowResult {
+    Ok(DateTime),
+    NotSound,
+}
+
+// What `register` answers.
+pub enum RegisterResult {
+    Ok(u8),
+    NoSuchRegister,
+    NotSound,
+}
+
+// What `dropped_diagnostics` answers.
+pub enum DroppedResult {
+    Ok(u64),
+    NotSound,
+}
+
+// What an event reports: at most one record.
+pub enum Report {
+    None,
+    One(I2cDiagnostic),
+}
+
+// What an event answers: START and WRITE an acknowledge, READ a byte.
+pub enum EventAnswer {
+    Acknowledge(bool),
+    Byte(u8),
+    Done,
+    NotSound,
+}
+
+// The chip after an event, its answer and its report.
+pub struct Stepped {
+    pub chip: Ds3231,
+    pub answer: EventAnswer,
+    pub report: Report,
+}

@@ -1,6 +1,6 @@
 -- `ds3231_step::reports::time_report` meets its contract.
 -- Assumes nothing.
-use Rattle.ds3231_step.proofs.ReportLaws.{field-defined}
+use Rattle.ds3231_step.proofs.TimingLaws.{field-defined}
 use borrow.Author.Needs.{needs}
 use Rattle.ds3231_step.proofs.reports.time_report.Statement.{statement}
 use Rattle.ds3231_step.proofs.reports.time_report.Tie as tie

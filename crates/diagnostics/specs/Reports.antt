@@ -5,6 +5,7 @@ use mathlib.Core.List.{List, [], _∷_}
 use lib.Dec.{ltb}
 use lib.ListN.{set}
 use Rattle.computed.specs.Choice.{if_then_else_}
+use Rattle.diagnostics.specs.declared.ChipName.the-variants.{Ds3231}
 use Rattle.diagnostics.specs.declared.I2cDiagnosticKind.{I2cDiagnosticKind}
 use Rattle.diagnostics.specs.declared.I2cDiagnosticKind.the-variants.{NotModelled, ReadOnly, NoSuchRegister, Undefined}
 use Rattle.diagnostics.specs.declared.I2cDiagnostic.{I2cDiagnostic}
@@ -33,6 +34,10 @@ lineOf (Undefined r b) = record { word = UNDEFINED; register = number r; byte = 
 lineOf (ReadOnly r) = record { word = READONLY; register = number r; byte = none }
 lineOf (NoSuchRegister b) = record { word = NOREGISTER; register = number b; byte = none }
 lineOf (NotModelled b) = record { word = NOTMODELLED; register = number 0x0E; byte = number b }
+
+-- a report of the clock at an instant
+abbrev pub report : ℕ → I2cDiagnosticKind → I2cDiagnostic
+report t kind = record { at = t; chip = Ds3231; kind = kind }
 
 -- the counts after a report: one more waits while fewer than 256 do, else one more is dropped, up to the largest number of 64 bits
 abbrev pub counted : Diagnostics → Diagnostics

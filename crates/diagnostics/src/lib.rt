@@ -1,4 +1,11 @@
-// What a chip on the bus reports: the kinds, the record, and the counts of the lent store of 256 records.
+// What a chip on the bus reports: the kinds, the record, the lent store of 256 records and its counts.
+ghost use mathlib.Core.Bool.{false};
+ghost use mathlib.Core.Path.{_≡_};
+ghost use Rattle.diagnostics.specs.Reports.{counted, report as reportOf};
+ghost use Rattle.diagnostics.specs.Lent.{ReportedTo, ReportedOn};
+
+// How many records the store has room for.
+pub const MAX_DIAGNOSTICS: usize = 256;
 
 // The chip that reports.
 pub enum ChipName {
@@ -27,4 +34,93 @@ pub struct I2cDiagnostic {
 pub struct Diagnostics {
     pub waiting: usize,
     pub dropped: u64,
+}
+
+// What `report` answers.
+pub enum ReportAnswer {
+    Done,
+    // More records wait than the store has room for.
+    NotSound,
+    // The store does not have 256 records.
+    StoreLength,
+}
+
+// What a report leaves of the counts, its answer, and the record with its place in the store, if it writes one.
+struct Outcome {
+    counts: Diagnostics,
+    answer: ReportAnswer,
+    write: bool,
+    slot: usize,
+    diagnostic: I2cDiagnostic,
+}
+
+// The counts after one more report: it waits in the store, or is dropped where the store is full.
+pub fn one_more(counts: Diagnostics) -> Diagnostics
+    ensures { λ r. ⌜ r ≡ counted counts ⌝ }
+{
+    let mut counts = counts;
+    if counts.waiting < MAX_DIAGNOSTICS {
+        counts.waiting = counts.waiting + 1;
+        return counts;
+    }
+    if counts.dropped < u64::MAX {
+        counts.dropped = counts.dropped + 1;
+    }
+    counts
+}
+
+// One more report of the clock: its record is written at the waiting count, or it is dropped where the store is full.
+pub fn report(
+    counts: &mut Diagnostics,
+    store: &mut [I2cDiagnostic],
+    kind: I2cDiagnosticKind,
+    at: u64,
+) -> ReportAnswer
+    ensures { λ r. ⌜ ReportedTo (now (counts .entry)) (now (store .entry)) (reportOf at kind) r (now (counts .exit)) (now (store .exit)) ⌝ }
+{
+    let c = *counts;
+    let out = reported(c, store.len(), kind, at);
+    *counts = out.counts;
+    if out.write {
+        store[out.slot] = out.diagnostic;
+    }
+    out.answer
+}
+
+// A report by value, into a store of `len` records.
+fn reported(counts: Diagnostics, len: usize, kind: I2cDiagnosticKind, at: u64) -> Outcome
+    ensures { λ r. ⌜ ReportedOn counts len (reportOf at kind) r ⌝ }
+{
+    let diagnostic = I2cDiagnostic {
+        at,
+        chip: ChipName::Ds3231,
+        kind,
+    };
+    if counts.waiting > MAX_DIAGNOSTICS {
+        return refused(counts, ReportAnswer::NotSound, diagnostic);
+    }
+    if len != MAX_DIAGNOSTICS {
+        return refused(counts, ReportAnswer::StoreLength, diagnostic);
+    }
+    let slot = counts.waiting;
+    Outcome {
+        counts: one_more(counts),
+        answer: ReportAnswer::Done,
+        write: slot < MAX_DIAGNOSTICS,
+        slot,
+        diagnostic,
+    }
+}
+
+// A refusal leaves the counts and writes nothing.
+fn refused(counts: Diagnostics, answer: ReportAnswer, diagnostic: I2cDiagnostic) -> Outcome
+    ensures { λ r. ⌜ r ≡ record { counts = counts; answer = answer; write = false; slot = 0; diagnostic = diagnostic } ⌝ }
+{
+    Outcome {
+        counts,
+        answer,
+        write: false,
+        slot: 0,
+        diagnostic,
+    }
 }

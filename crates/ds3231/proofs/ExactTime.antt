@@ -10,7 +10,7 @@ use borrow.Author.Tests.{le-leb}
 use lib.Dec.{leb, eqb}
 use lib.IntN.{ℤ}
 use lib.ListN.{length, getD}
-use Rattle.refusals.specs.Numbered.{Numbered, accepted, refused, andThen}
+use Rattle.refusals.specs.Numbered.{Numbered, accepted, refused, andThen, unless}
 use Rattle.computed.specs.Choice.{if_then_else_}
 use Rattle.calendar.specs.Stated.{InRange, checked, timeOf}
 use Rattle.calendar.proofs.Laws.{accepted-in-range, seconds-of-time, weekday-formula}
@@ -18,7 +18,7 @@ use Rattle.diagnostics.specs.declared.I2cDiagnostic.{I2cDiagnostic}
 use Rattle.ds3231.specs.Clock.{secondsAt, offsetFor}
 use Rattle.ds3231.specs.Timing.{shownAt, latch, pointed, inPhase, written, hasRead}
 use Rattle.ds3231.specs.Registers.{otherByte}
-use Rattle.ds3231.specs.Calls.{inQuarters, sound, timingOn, chipOn, checkedQuarters, powerOn, registerAnswer, Event, START, WRITE, READ, STOP, byte, readReply, step, stepChip, Call, bus, taking, lentStore, tooShort, verdict, chipBy, unless, chipAfter, replyBy, answer}
+use Rattle.ds3231.specs.Calls.{inQuarters, sound, timingOn, chipOn, checkedQuarters, powerOn, registerAnswer, Event, START, WRITE, READ, STOP, byte, readReply, step, stepChip, Call, bus, taking, lentStore, tooShort, verdict, chipBy, chipAfter, replyBy, answer}
 use Rattle.ds3231.specs.Model.{reads, Model, wrapsIn, wraps, fed, modelOn}
 use Rattle.ds3231.specs.Exact.{chipAfterAll, eventsBy, events, fullyLent, modelAfter, Mark, markWith, markBy, modelBy, markAfter, instant, NeverFall, lastInstant, chip, model, mark, ReadsTime, Holds, ExactTime}
 use Rattle.ds3231.specs.declared.Phase.{Phase}

@@ -4,9 +4,9 @@ use Prim.Native.Nat.{ℕ, _+_, _^_, _≤_, _<_}
 use mathlib.Core.List.{List, [], _∷_}
 use mathlib.Core.Path.{_≡_, refl, sym, ap}
 use native.Mathlib.Omega.{arith}
-use Rattle.refusals.specs.Numbered.{Numbered, accepted, refused, andThen}
+use Rattle.refusals.specs.Numbered.{Numbered, accepted, refused, andThen, unless}
 use Rattle.diagnostics.proofs.Counts.{adds-all}
-use Rattle.ds3231.specs.Calls.{Event, START, WRITE, READ, STOP, writeReply, readReply, step, Call, bus, taking, chipBy, unless, verdict, chipAfter, replyBy}
+use Rattle.ds3231.specs.Calls.{Event, START, WRITE, READ, STOP, writeReply, readReply, step, Call, bus, taking, chipBy, verdict, chipAfter, replyBy}
 use Rattle.ds3231.specs.Exact.{chipAfterAll}
 use Rattle.ds3231.specs.Total.{reportsOf, reported, takenIn, takenOf, taken, ReportTotal}
 use Rattle.ds3231.specs.declared.Phase.{Phase}

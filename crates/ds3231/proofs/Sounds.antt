@@ -8,7 +8,7 @@ use native.Mathlib.Omega.{arith}
 use borrow.Author.Tests.{leb-true, leb-false, le-leb}
 use lib.Dec.{leb, eqb}
 use lib.Bits.{bitAnd}
-use Rattle.refusals.specs.Numbered.{Numbered, accepted, refused, andThen}
+use Rattle.refusals.specs.Numbered.{Numbered, accepted, refused, andThen, unless}
 use Rattle.computed.specs.Choice.{if_then_else_}
 use Rattle.computed.proofs.Choice.{chosen}
 use Rattle.calendar.specs.Stated.{InRange}
@@ -19,7 +19,7 @@ use Rattle.ds3231.specs.Numbers.{range}
 use Rattle.ds3231.specs.Clock.{secondsAt}
 use Rattle.ds3231.specs.Timing.{isDefined, opened, noted, commit, accept, nextPointer, written, hasRead}
 use Rattle.ds3231.specs.Registers.{othersWritten}
-use Rattle.ds3231.specs.Calls.{inQuarters, sound, chipOn, Event, START, WRITE, READ, STOP, step, Call, bus, taking, chipBy, unless, verdict, chipAfter, registerByte, registerAnswer}
+use Rattle.ds3231.specs.Calls.{inQuarters, sound, chipOn, Event, START, WRITE, READ, STOP, step, Call, bus, taking, chipBy, verdict, chipAfter, registerByte, registerAnswer}
 use Rattle.ds3231.specs.Exact.{chipAfterAll}
 use Rattle.ds3231.specs.declared.Clock.{Clock}
 use Rattle.ds3231.specs.declared.Phase.{Phase}

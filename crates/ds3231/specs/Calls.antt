@@ -8,14 +8,12 @@ use lib.Dec.{leb, ltb, eqb}
 use lib.IntN.{ℤ, pos, negsuc}
 use lib.ListN.{length, getD, take, drop, replicate}
 use lib.Signed.{leZ}
-use Rattle.refusals.specs.Numbered.{Numbered, accepted, refused, andThen}
+use Rattle.refusals.specs.Numbered.{Numbered, accepted, refused, andThen, unless}
 use Rattle.computed.specs.Choice.{if_then_else_}
 use Rattle.calendar.specs.Stated.{checked, weekdayOf, monthLength}
 use Rattle.calendar.specs.declared.DateTime.{DateTime}
 use Rattle.fields.specs.Table.{toDigits, meaning}
-use Rattle.diagnostics.specs.Reports.{countedAll, storedAll}
-use Rattle.diagnostics.specs.declared.ChipName.the-variants.{Ds3231}
-use Rattle.diagnostics.specs.declared.I2cDiagnosticKind.{I2cDiagnosticKind}
+use Rattle.diagnostics.specs.Reports.{report, countedAll, storedAll}
 use Rattle.diagnostics.specs.declared.I2cDiagnosticKind.the-variants.{NotModelled, ReadOnly, NoSuchRegister, Undefined}
 use Rattle.diagnostics.specs.declared.I2cDiagnostic.{I2cDiagnostic}
 use Rattle.ds3231.specs.Numbers.{range}
@@ -140,9 +138,6 @@ pub record Step : Type 0 where
   pub reports : List I2cDiagnostic
   pub reply : Reply
 
-abbrev pub report : ℕ → I2cDiagnosticKind → I2cDiagnostic
-report t kind = record { at = t; chip = Ds3231; kind = kind }
-
 -- a commit of a day past the month's end: UNDEFINED at 0x04 with the day as digits
 abbrev pub commitReports : ℕ → Timing → List I2cDiagnostic
 commitReports t c =
@@ -252,16 +247,12 @@ abbrev pub replyBy : Call → Chip.Ds3231 → Reply
 replyBy (bus s e) c = step e c .reply
 replyBy (taking s o) c = copied (c .diagnostics .waiting)
 
--- a refusal changes neither chip, store nor output
+-- the output that a call is lent
 abbrev pub lentOut : Call → List I2cDiagnostic
 lentOut (bus s e) = []
 lentOut (taking s o) = o
 
-abbrev pub unless : {A : Type 0} → Numbered (Unit {0}) → A → A → A
-unless (accepted u) after before = after
-unless (refused n vs) after before = before
-
--- the chip, the store and the output after a call, and its answer
+-- the chip, the store and the output after a call, none of which a refusal changes, and its answer
 abbrev pub chipAfter : Call → Chip.Ds3231 → Chip.Ds3231
 chipAfter k c = unless (verdict k c) (chipBy k c) c
 

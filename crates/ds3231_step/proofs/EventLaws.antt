@@ -5,10 +5,10 @@ use mathlib.Core.Bool.{Bool, true, false, not}
 use mathlib.Core.List.{[]}
 use mathlib.Core.Path.{_≡_, sym, ap, _∙_}
 use borrow.Author.Tests.{not-true, not-false}
-use Rattle.refusals.specs.Numbered.{Numbered, accepted, refused, andThen}
+use Rattle.refusals.specs.Numbered.{Numbered, accepted, refused, andThen, unless}
 use Rattle.computed.specs.Choice.{if_then_else_}
 use Rattle.diagnostics.specs.Reports.{countedAll}
-use Rattle.ds3231.specs.Calls.{sound, checkedChip, Event, step, stepChip, unless}
+use Rattle.ds3231.specs.Calls.{sound, checkedChip, Event, step, stepChip}
 use Rattle.ds3231.specs.declared.Ds3231.{Ds3231}
 use Rattle.ds3231.specs.declared.Timing.{Timing}
 use Rattle.ds3231.specs.declared.Registers.{Registers}

@@ -3,5 +3,4 @@ pub mod EventLaws
 pub mod Lossless
 pub mod PowerLaws
 pub mod RegisterLaws
-pub mod ReportLaws
 pub mod TimingLaws

@@ -6,12 +6,12 @@ use mathlib.Core.List.{List, [], _∷_}
 use mathlib.Core.Path.{_≡_}
 use lib.IntN.{pos}
 use lib.ListN.{replicate}
-use Rattle.refusals.specs.Numbered.{Numbered, accepted, refused, andThen}
+use Rattle.refusals.specs.Numbered.{Numbered, accepted, refused, andThen, unless}
 use Rattle.calendar.specs.Answers.{refusedBy}
 use Rattle.calendar.specs.Stated.{dateTime}
 use Rattle.calendar.specs.declared.DateTime.{DateTime}
 use Rattle.diagnostics.specs.declared.I2cDiagnostic.{I2cDiagnostic}
-use Rattle.ds3231.specs.Calls.{noPending, powerOn, checkedChip, Event, Reply, acknowledge, byte, done, step, stepChip, unless}
+use Rattle.ds3231.specs.Calls.{noPending, powerOn, checkedChip, Event, Reply, acknowledge, byte, done, step, stepChip}
 use Rattle.ds3231.specs.declared.Ds3231.{Ds3231}
 use Rattle.ds3231.specs.declared.Ds3231Config.{Ds3231Config}
 use Rattle.ds3231.specs.declared.Phase.the-variants.{Released}

@@ -5,11 +5,11 @@ ghost use mathlib.Core.Path.{_≡_};
 ghost use lib.Dec.{leb};
 ghost use Rattle.computed.specs.Choice.{if_then_else_};
 ghost use Rattle.fields.specs.Table.{meaning};
-ghost use Rattle.diagnostics.specs.Reports.{counted, countedAll};
+ghost use Rattle.diagnostics.specs.Reports.{report, countedAll};
 ghost use Rattle.diagnostics.specs.declared.I2cDiagnosticKind.the-variants.{NotModelled, NoSuchRegister, Undefined};
 ghost use Rattle.ds3231.specs.Registers.{enablesOutput};
 ghost use Rattle.ds3231.specs.Timing.{isDefined};
-ghost use Rattle.ds3231.specs.Calls.{report, commitReports, registerReports, writeReports};
+ghost use Rattle.ds3231.specs.Calls.{commitReports, registerReports, writeReports};
 ghost use Rattle.ds3231_step.specs.Answers.{reportsOf};
 use crate::Report;
 use crate::registers::CONTROL;
@@ -23,15 +23,13 @@ use diagnostics::ChipName;
 use diagnostics::Diagnostics;
 use diagnostics::I2cDiagnostic;
 use diagnostics::I2cDiagnosticKind;
+use diagnostics::one_more;
 use ds3231::Phase;
 use ds3231::Registers;
 use ds3231::Timing;
 use fields::Decoded;
 use fields::decode;
 use fields::to_bcd;
-
-// How many records the store has room for.
-pub(crate) const MAX_DIAGNOSTICS: usize = 256;
 
 // A report of the clock at an instant.
 fn report(at: u64, kind: I2cDiagnosticKind) -> Report
@@ -143,19 +141,4 @@ pub(crate) fn counted(counts: Diagnostics, report: Report) -> Diagnostics
         Report::None => counts,
         Report::One(_) => one_more(counts),
     }
-}
-
-// The counts after one more report.
-fn one_more(counts: Diagnostics) -> Diagnostics
-    ensures { λ r. ⌜ r ≡ counted counts ⌝ }
-{
-    let mut counts = counts;
-    if counts.waiting < MAX_DIAGNOSTICS {
-        counts.waiting = counts.waiting + 1;
-        return counts;
-    }
-    if counts.dropped < u64::MAX {
-        counts.dropped = counts.dropped + 1;
-    }
-    counts
 }

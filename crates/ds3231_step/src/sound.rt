@@ -4,8 +4,8 @@ ghost use Rattle.ds3231.specs.Calls.{soundTime, soundPending, soundTiming, inQu
 use crate::clock::SECONDS_IN_RANGE;
 use crate::registers::CONV;
 use crate::registers::LAST_REGISTER;
-use crate::reports::MAX_DIAGNOSTICS;
 use calendar::DateTime;
+use diagnostics::MAX_DIAGNOSTICS;
 use ds3231::Ds3231;
 use ds3231::PendingTime;
 use ds3231::Registers;

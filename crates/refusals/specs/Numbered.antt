@@ -13,3 +13,8 @@ pub data Numbered (A : Type 0) : Type 0 where
 abbrev pub andThen : {A : Type 0} → Numbered (Unit {0}) → Numbered A → Numbered A
 andThen (accepted _) answer = answer
 andThen (refused number values) answer = refused number values
+
+-- what a call leaves after a check: what was there before if the check refuses
+abbrev pub unless : {A : Type 0} → Numbered (Unit {0}) → A → A → A
+unless (accepted _) after before = after
+unless (refused number values) after before = before

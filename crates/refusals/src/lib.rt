@@ -1,1 +1,1 @@
-// The answers as the table of refusals numbers them: a definition alone, in specs/.
+// The answers as the table of refusals numbers them: definitions in specs/, and what a check makes of an answer in proofs/.

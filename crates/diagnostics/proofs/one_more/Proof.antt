@@ -1,9 +1,9 @@
--- `ds3231_step::reports::one_more` meets its contract.
+-- `diagnostics::one_more` meets its contract.
 -- Assumes nothing.
-use Rattle.ds3231_step.proofs.ReportLaws.{one-waits, one-dropped, none-dropped}
+use Rattle.diagnostics.proofs.OneMore.{one-waits, one-dropped, none-dropped}
 use borrow.Author.Needs.{needs}
-use Rattle.ds3231_step.proofs.reports.one_more.Statement.{statement}
-use Rattle.ds3231_step.proofs.reports.one_more.Tie as tie
+use Rattle.diagnostics.proofs.one_more.Statement.{statement}
+use Rattle.diagnostics.proofs.one_more.Tie as tie
 
 add-counts : tie.Need-add-counts
 add-counts c = search needs

@@ -1,0 +1,6 @@
+pub mod Lossless
+pub mod OutcomeLaws
+pub mod TakingLaws
+pub mod Rows
+pub mod BusRows
+pub mod TakingRows

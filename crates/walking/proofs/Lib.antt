@@ -1,0 +1,15 @@
+pub mod Data
+pub mod CallData
+pub mod Lent
+pub mod Frame
+pub mod Local
+pub mod Walk
+pub mod One
+pub mod Extras
+pub mod Drive
+pub mod Picks
+pub mod Face
+pub mod Session
+pub mod Copied
+pub mod Taking
+pub mod TakingFace

@@ -64,8 +64,11 @@ laws = record {
 }
 
 -- what `report` is passed beside counts and store: a kind and an instant
+abbrev pub kind : Extra
+kind = record { one = one-of K.the-row K′.mir; laws = of-enum K.the-type K′.the-laws tt K′.the-plain K′.the-copy }
+
 abbrev pub kind-at : List Extra
-kind-at = record { one = one-of K.the-row K′.mir; laws = of-enum K.the-type K′.the-laws tt K′.the-plain K′.the-copy } ∷ number w64 ∷ []
+kind-at = kind ∷ number w64 ∷ []
 
 abbrev Made : Makes counts answer diagnostic kind-at outcome
 Made n len xs r = ReportedOn n len (report (xs .1 .0) (xs .0)) r

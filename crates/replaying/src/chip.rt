@@ -1,16 +1,24 @@
-// The calls of the chip.
+// The calls of the chip, on a chip and a store of 256 records.
 use crate::record;
 use crate::text;
+use bus_by_value::Session;
+use bus_by_value::Values;
+use bus_by_value::address_on;
+use bus_by_value::read_on;
+use bus_by_value::stop_on;
+use bus_by_value::write_on;
+use diagnostics::ChipName;
+use diagnostics::I2cDiagnostic;
+use diagnostics::I2cDiagnosticKind;
 use ds3231::Ds3231;
 use ds3231::Ds3231Config;
+use ds3231_bus::BusAnswer;
 use ds3231_step::DroppedResult;
-use ds3231_step::EventAnswer;
 use ds3231_step::NowResult;
 use ds3231_step::PowerOnAnswer;
 use ds3231_step::RegisterResult;
-use ds3231_step::Stepped;
 
-pub(crate) fn on(record: [u8; 16]) -> Ds3231 {
+pub(crate) fn on(record: [u8; 16]) -> Session {
     let start = record::time(record);
     let config = Ds3231Config {
         start,
@@ -20,7 +28,32 @@ pub(crate) fn on(record: [u8; 16]) -> Ds3231 {
     let powered = ds3231_step::power_on(config);
     let answer = powered.answer;
     on_answer(answer);
-    powered.chip
+    with_store(powered.chip)
+}
+
+// The chip of a power-on, with a store.
+pub(crate) fn begun(config: Ds3231Config) -> Session {
+    let powered = ds3231_step::power_on(config);
+    with_store(powered.chip)
+}
+
+fn with_store(chip: Ds3231) -> Session {
+    let any = any_diagnostic();
+    let store = [any; 256];
+    Session {
+        chip,
+        store,
+        answer: BusAnswer::Done,
+    }
+}
+
+// What a record holds that no report was written to.
+pub(crate) fn any_diagnostic() -> I2cDiagnostic {
+    I2cDiagnostic {
+        at: 0,
+        chip: ChipName::Ds3231,
+        kind: I2cDiagnosticKind::ReadOnly { register: 0 },
+    }
 }
 
 fn on_answer(answer: PowerOnAnswer) {
@@ -31,30 +64,44 @@ fn on_answer(answer: PowerOnAnswer) {
     }
 }
 
-pub(crate) fn event(record: [u8; 16], chip: Ds3231) -> Ds3231 {
-    let stepped = stepped(record, chip);
-    let answer = stepped.answer;
+pub(crate) fn event(record: [u8; 16], before: Session) -> Session {
+    let after = called(record, before);
+    let answer = after.answer;
     event_answer(answer);
-    stepped.chip
+    after
 }
 
-fn stepped(record: [u8; 16], chip: Ds3231) -> Stepped {
-    let at = record::number8(record);
+fn called(record: [u8; 16], session: Session) -> Session {
     let byte = record::byte(record);
-    match record::kind(record) {
-        0 => ds3231_step::address(chip, byte, record::read_bit(record), at),
-        1 => ds3231_step::write(chip, byte, at),
-        2 => ds3231_step::read(chip, byte == 1, at),
-        _ => ds3231_step::stop(chip, at),
+    let kind = record::kind(record);
+    let values = Values {
+        value: byte,
+        bit: bit(record, kind),
+        at: record::number8(record),
+    };
+    match kind {
+        0 => address_on(session, values),
+        1 => write_on(session, values),
+        2 => read_on(session, values),
+        _ => stop_on(session, values),
     }
 }
 
-fn event_answer(answer: EventAnswer) {
+// The read bit of a START, the acknowledge of a READ.
+fn bit(record: [u8; 16], kind: u8) -> bool {
+    if kind == 0 {
+        return record::read_bit(record);
+    }
+    record::byte(record) == 1
+}
+
+fn event_answer(answer: BusAnswer) {
     match answer {
-        EventAnswer::Acknowledge(acknowledged) => text::bit(acknowledged),
-        EventAnswer::Byte(byte) => text::hex(byte),
-        EventAnswer::Done => text::bit(false),
-        EventAnswer::NotSound => text::not_sound(),
+        BusAnswer::Acknowledge(acknowledged) => text::bit(acknowledged),
+        BusAnswer::Byte(byte) => text::hex(byte),
+        BusAnswer::Done => text::bit(false),
+        BusAnswer::NotSound => text::not_sound(),
+        BusAnswer::StoreLength => text::refused(11),
     }
 }
 
@@ -62,8 +109,7 @@ pub(crate) fn asked(record: [u8; 16], chip: Ds3231) {
     match record::kind(record) {
         5 => register(record, chip),
         6 => now(record, chip),
-        7 => dropped(chip),
-        _ => text::taking(),
+        _ => dropped(chip),
     }
 }
 

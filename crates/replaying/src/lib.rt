@@ -1,29 +1,30 @@
 // Re-runs recorded lists of calls (vectors/README.md has their form) and prints the answers, a line each.
-// Modules: `record` has the numbers of a record, `chip` the calls of the chip, `dates` those of `DateTime`, and `text`
-// the text of answers.
+// Modules: `record` has the numbers of a record, `chip` the calls of the chip, `taking` the taking of diagnostics, `dates`
+// the calls of `DateTime`, and `text` the text of answers.
 ghost use mathlib.Core.Path.{_≡_};
 ghost use Prim.Native.Nat.{_+_, _<_, _≤_};
 ghost use lib.ListN.{length};
+use bus_by_value::Session;
 use calendar::DateTime;
-use ds3231::Ds3231;
 use ds3231::Ds3231Config;
-use ds3231_step::power_on;
 
 mod chip;
 mod dates;
 mod record;
+mod taking;
 mod text;
 
 const HEADER: usize = 4;
 
 const RECORD: usize = 16;
 
-// A place in the input, how many records of the list under way are left, how many lists were begun, and the chip.
+// A place in the input, how many records of the list under way are left, how many lists were begun, and the chip with
+// its store.
 struct Run {
     at: usize,
     left: u64,
     lists: u64,
-    chip: Ds3231,
+    session: Session,
 }
 
 // Runs the lists of `input` to its end, and answers where that is.
@@ -54,13 +55,11 @@ fn first() -> Run
         oscillator_stopped: false,
         temperature_quarters: 100,
     };
-    let powered = power_on(config);
-    let chip = powered.chip;
     Run {
         at: 0,
         left: 0,
         lists: 0,
-        chip,
+        session: chip::begun(config),
     }
 }
 
@@ -100,12 +99,12 @@ fn record_at(input: &[u8], at: usize) -> [u8; 16]
 fn moved(next: usize, run: Run) -> Run
     ensures { λ r. ⌜ r .at ≡ next ⌝ }
 {
-    let chip = run.chip;
+    let session = run.session;
     Run {
         at: next,
         left: run.left,
         lists: run.lists,
-        chip,
+        session,
     }
 }
 
@@ -114,12 +113,12 @@ fn begun(next: usize, records: u64, run: Run) -> Run
     ensures { λ r. ⌜ r .at ≡ next ⌝ }
 {
     text::list(run.lists);
-    let chip = run.chip;
+    let session = run.session;
     Run {
         at: next,
         left: records,
         lists: std::num::wrapping_add_u64(run.lists, 1),
-        chip,
+        session,
     }
 }
 
@@ -127,26 +126,27 @@ fn begun(next: usize, records: u64, run: Run) -> Run
 fn answered(next: usize, record: [u8; 16], run: Run) -> Run
     ensures { λ r. ⌜ r .at ≡ next ⌝ }
 {
-    let before = run.chip;
-    let chip = answer(record, before);
+    let before = run.session;
+    let session = answer(record, before);
     text::line_end();
     Run {
         at: next,
         left: std::num::wrapping_sub_u64(run.left, 1),
         lists: run.lists,
-        chip,
+        session,
     }
 }
 
 // Answers a record's call, by its kind.
-fn answer(record: [u8; 16], before: Ds3231) -> Ds3231 {
+fn answer(record: [u8; 16], before: Session) -> Session {
     match record::kind(record) {
         0..=3 => chip::event(record, before),
         4 => chip::on(record),
-        5..=8 => {
-            chip::asked(record, before);
+        5..=7 => {
+            chip::asked(record, before.chip);
             before
         }
+        8 => taking::taken(before),
         _ => {
             dates::asked(record);
             before

@@ -1,14 +1,13 @@
 -- The structs of this crate as the walks of `Face.antt` and `TakingFace.antt` take them.
 -- Assumes nothing.
 use mathlib.Core.Path.{refl}
-use mathlib.Core.List.{List}
 use mir.Syntax.{w8, w64, tyInt, tyBool, tnil, tcons}
 use mir.Val.{vbool, vint, vnil, vcons}
 use denote.Struct.Laws as LL
-use Rattle.walking.proofs.Data.{Data, of-struct, of-enum}
-use Rattle.walking.proofs.One.{One, Sessions, SesLaws}
+use Rattle.walking.proofs.Data.{Data, of-struct}
+use Rattle.walking.proofs.One.{Sessions, SesLaws}
 use Rattle.walking.proofs.Session.{ses-laws}
-use Rattle.walking.proofs.Extras.{Extra, number, flag}
+use Rattle.walking.proofs.Extras.{number, flag}
 use Rattle.walking.proofs.Picks.{Inputs, InLaws, Pick}
 use Rattle.diagnostics.proofs.Rows.{diagnostic, diagnostic-data}
 use Rattle.diagnostics.proofs.ReportRows.{counts, counts-data, answer as report-answer, answer-data as report-answer-data, kind}

@@ -1,18 +1,17 @@
 -- What `reported` answers meets what `report` promises, in each of its cases.
 -- Assumes nothing.
 use Prim.Native.Nat.{ℕ, _<_, _≤_}
-use mathlib.Core.Bool.{Bool, true, false, not}
+use mathlib.Core.Bool.{false}
 use mathlib.Core.List.{List, []}
 use mathlib.Core.Path.{_≡_, refl, sym, _∙_, subst}
-use lib.Dec.{ltb, eqb}
+use lib.Dec.{ltb}
 use lib.ListN.{length}
 use native.Mathlib.Omega.{arith}
 use borrow.Author.Tests.{ltb-true, lt-ltb, le-ltb, eq-eqb, ne-eqb}
 use Rattle.refusals.specs.Numbered.{accepted, refused}
 use Rattle.refusals.proofs.Checks.{accepted-leaves, refused-leaves}
-use Rattle.computed.specs.Choice.{if_then_else_}
 use Rattle.diagnostics.specs.Reports.{counted}
-use Rattle.diagnostics.specs.Lent.{reportNumbered, reportVerdict, ReportedTo, ReportedOn, writtenIf}
+use Rattle.diagnostics.specs.Lent.{reportNumbered, reportVerdict, ReportedOn}
 use Rattle.diagnostics.specs.declared.I2cDiagnostic.{I2cDiagnostic}
 use Rattle.diagnostics.specs.declared.Diagnostics.{Diagnostics}
 use Rattle.diagnostics.specs.declared.ReportAnswer.{ReportAnswer}

@@ -1,6 +1,5 @@
 -- The numbered answers of the bus calls and of taking lose nothing: each answer can be read back.
 -- Assumes nothing.
-use Prim.Native.Nat.{ℕ}
 use mathlib.Core.Path.{_≡_, refl}
 use lib.Dec.{eqb}
 use Rattle.refusals.specs.Numbered.{Numbered, accepted, refused}

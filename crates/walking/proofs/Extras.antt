@@ -1,4 +1,4 @@
--- Parameters of plain data, as a list: a walk over any list of them is the walk at each. It says nothing of the crate.
+-- Parameters of plain data, as a list: a walk over any list of them is the walk at each. It says nothing of any crate.
 --     Extra            a type of one machine value, with its laws.        number, flag     a number of a width, and a `bool`
 --     slots, kepts, stays, goes        the parameters in a signature of n lifetimes, and what a walk says of them at exit
 --     rows, spells, tells, words       their rows and their machine values, at the lifetimes κs

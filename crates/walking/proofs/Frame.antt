@@ -1,4 +1,4 @@
--- The locals of a function, all at once. It says nothing of the crate, and can be copied as it stands.
+-- The locals of a function, all at once. It says nothing of any crate.
 --     Locs, envAt      the blocks of a list of locals, and the environment that they make
 --     framed           the context that the locals make, the last local first: for each its cell or room, and its end. Local i of n stands at 2 · (n − 1 − i)
 --     enters, alloc-all        a function is entered: its locals are allocated
@@ -17,7 +17,7 @@ use base.Logic.{SProp, ent, sep, via, id⊢, comm∗, monoL, monoR, assoc∗, as
 use base.Fml.{Fml, ftrue, fat, froom, fdies}
 use prog.Wp.{Heap, Env, Calls, Loops, WpFn}
 use ghost.Atoms.{Atoms}
-use types.Kit.{Given, Item, ‵, mean, ⋆, push, pop, ++⊢, ⊢++, Goal, prop, runs, allocs, params′, frees, atRet, Seq, Step, step, _$_, by}
+use types.Kit.{Given, Item, ‵, mean, ⋆, push, pop, ++⊢, Goal, prop, runs, allocs, params′, frees, atRet, Seq, Step, step, _$_, by}
 use types.Run.{enter, alloc1, alloc0, forget, free1, free0}
 
 abbrev pub rest : Body → Body

@@ -4,7 +4,7 @@
 --     Makings, Claims  a predicate of a chip, the two lengths and the outcome; a claim of the entry, the answer and the exit
 --     asks, does       the callee's contract, at a predicate Made, and the function's, at a claim Said
 --     takes            so the function meets its contract, where the callee meets its own, and any outcome with Made has a count within both lengths and shows the claim
--- The types are variables (`One.antt`), so what the walk costs does not depend on them. It says nothing of the crate.
+-- The types are variables (`One.antt`), so what the walk costs does not depend on them. It says nothing of any crate.
 -- The locals stay at the head of the context, local i of 16 at 2 · (15 − i), and the borrows stand behind them, from 32 on.
 -- Assumes nothing.
 use Rattle.walking.proofs.Walk.{_≡_, refl, sym, _∙_, ap, subst, ℕ, _<_, _≤_, _+_, _*_, _^_, arith, Bool, true, false, not, [], _∷_, List, T, lit<, length, getD, URA, fullShare, named, w64, tyPtr, Val, vbool, vint, vptr, SProp, ent, emp, via, fst∗, id⊢, GName, Lft, Share, ftrue, fat, flft, Heap, Env, WpFn, Tables, Atoms, sem, fact, Given, Item, ‵, _⊛_, ⋆, Sq, runs, atRet, anyQ, _$_, _∵_, !, qed, by, move, keep, split, split3, group, fsplit, fjoin, rewrite, suffices, frame, done, look, look-raw, store, store-raw, init, forget, stop, hop, fld, from, load, lit, of-opd, bin, and-then, no-more, assigns, assigns-last, first, blocks, loops, again, Below, stays, leaves-loop, exec, land, returns, params1, pass1, pass0, whole, sub, look-in, FmC, fmOf, WpFn-mono, owns, Is, Ises, owns-make, uint-makes, usize, RefT, MutRef, ptr-vals, mut-tells, sliceVal, MutSlice, ShrSlice, Room, slice-vals, mut-slice-tells, shr-slice-tells, plain, owned, nothing, onEntry, Triple, Meets, says, Stays, stay-ref, stay-slice, stay-none-slice, walkOf, goes-ref, goes-slice, goes-none-slice, ends-at, walked, walk-meets, yes, Asked, calls-data, at-ref, RefOwn, SliceOwn, RowOwn, ref-open, ref-shut, slice-open, slice-shut, row-look, row-shut, Content, void, has, Locs, envAt, framed, enters, leaves, back, rest, front, inner}

@@ -3,7 +3,7 @@
 --     says-so          the face's contract, at a claim of what was passed and of the struct returned
 --     faces            so the face meets its contract, where f meets `Taking.antt`'s `does`, and f's claim shows the face's
 -- The struct is a `Sessions` of `One.antt`: a chip, m notes and an answer, in this order.
--- The types are variables (`One.antt`), so what the walk costs does not depend on them. It says nothing of the crate.
+-- The types are variables (`One.antt`), so what the walk costs does not depend on them. It says nothing of any crate.
 -- The locals stay at the head of the context, local i of 15 at 2 · (14 − i), and what is lent stands behind them, from 30 on. Where a local's cell is away, `emp` stands in its place.
 -- Assumes nothing.
 use Rattle.walking.proofs.Walk.{_≡_, refl, ℕ, _^_, [], _∷_, List, T, length, URA, fullShare, Val, vptr, SProp, ent, emp, via, fst∗, id⊢, GName, ftrue, fat, flft, Heap, Env, Calls, Loops, WpFn, Tables, Atoms, fact, Given, Item, ‵, raw, some, _⊛_, ⋆, Sq, lands, atRet, _$_, _∵_, !, qed, by, move, keep, use1, pick, feqL, split, split3, group, join, fsplit, fjoin, suffices, frame, done, addr, look, init, stop, from, load, lit, of-opd, and-then, no-more, assigns, land, returns, params1, pass1, pass0, agg, FmC, fmOf, WpFn-mono, owns, Is, sliceVal, Room, plain, owned, heard, nothing, onEntry, Triple, lasts, lft-new, lft-end, Meets, says, Stays, walkOf, ends-at, walked, walk-meets, yes, Asked, at-ref, RefOwn, SliceOwn, RowOwn, Content, void, away, has, Locs, envAt, framed, rest, enters, leaves, back, sink, lend-ref, back-ref, calls-with, lend-array, back-array, lend-shared, back-shared, of-array}

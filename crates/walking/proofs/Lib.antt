@@ -13,3 +13,5 @@ pub mod Session
 pub mod Copied
 pub mod Taking
 pub mod TakingFace
+pub mod Arrays
+pub mod Run

@@ -7,7 +7,7 @@
 -- The types are variables (`One.antt`), so what the walk costs does not depend on them. It says nothing of any crate.
 -- The locals stay at the head of the context, local i of 16 at 2 · (15 − i), and the borrows stand behind them, from 32 on.
 -- Assumes nothing.
-use Rattle.walking.proofs.Walk.{_≡_, refl, sym, _∙_, ap, subst, ℕ, _<_, _≤_, _+_, _*_, _^_, arith, Bool, true, false, not, [], _∷_, List, T, lit<, length, getD, URA, fullShare, named, w64, tyPtr, Val, vbool, vint, vptr, SProp, ent, emp, via, fst∗, id⊢, GName, Lft, Share, ftrue, fat, flft, Heap, Env, WpFn, Tables, Atoms, sem, fact, Given, Item, ‵, _⊛_, ⋆, Sq, runs, atRet, anyQ, _$_, _∵_, !, qed, by, move, keep, split, split3, group, fsplit, fjoin, rewrite, suffices, frame, done, look, look-raw, store, store-raw, init, forget, stop, hop, fld, from, load, lit, of-opd, bin, and-then, no-more, assigns, assigns-last, first, blocks, loops, again, Below, stays, leaves-loop, exec, land, returns, params1, pass1, pass0, whole, sub, look-in, FmC, fmOf, WpFn-mono, owns, Is, Ises, owns-make, uint-makes, usize, RefT, MutRef, ptr-vals, mut-tells, sliceVal, MutSlice, ShrSlice, Room, slice-vals, mut-slice-tells, shr-slice-tells, plain, owned, nothing, onEntry, Triple, Meets, says, Stays, stay-ref, stay-slice, stay-none-slice, walkOf, goes-ref, goes-slice, goes-none-slice, ends-at, walked, walk-meets, yes, Asked, calls-data, at-ref, RefOwn, SliceOwn, RowOwn, ref-open, ref-shut, slice-open, slice-shut, row-look, row-shut, Content, void, has, Locs, envAt, framed, enters, leaves, back, rest, front, inner}
+use Rattle.walking.proofs.Walk.{_≡_, refl, sym, _∙_, ap, subst, ℕ, _<_, _≤_, _+_, _*_, _^_, arith, Bool, false, [], _∷_, List, T, lit<, length, getD, URA, fullShare, named, w64, tyPtr, Val, vbool, vint, vptr, SProp, ent, emp, via, fst∗, id⊢, GName, Lft, Share, ftrue, fat, flft, Heap, Env, WpFn, Tables, Atoms, sem, fact, Given, Item, ‵, _⊛_, ⋆, Sq, runs, atRet, anyQ, _$_, _∵_, !, qed, by, move, keep, split, split3, group, fsplit, fjoin, rewrite, suffices, frame, done, look, look-raw, store, store-raw, init, forget, stop, hop, fld, from, load, lit, of-opd, bin, and-then, no-more, assigns, assigns-last, first, blocks, loops, again, Below, stays, leaves-loop, exec, land, returns, params1, pass1, pass0, whole, sub, look-in, FmC, fmOf, WpFn-mono, owns, Is, Ises, owns-make, uint-makes, usize, RefT, MutRef, ptr-vals, mut-tells, sliceVal, MutSlice, ShrSlice, Room, slice-vals, mut-slice-tells, shr-slice-tells, plain, owned, nothing, onEntry, Triple, Meets, says, Stays, stay-ref, stay-slice, stay-none-slice, walkOf, goes-ref, goes-slice, goes-none-slice, ends-at, walked, walk-meets, yes, Asked, calls-data, at-ref, RefOwn, SliceOwn, RowOwn, ref-open, ref-shut, slice-open, slice-shut, row-look, row-shut, Content, void, has, Locs, envAt, framed, enters, leaves, back, rest, front, inner}
 use Prim.Native.Nat.{_-_}
 use mathlib.Core.WellFounded.{InvImage·wf}
 use lib.WfN.{Nat·lt-wfRel}
@@ -29,7 +29,7 @@ use denote.Index.{place as place-of, place-is}
 use denote.Triple.Clauses.{Ended, Clauses, closing}
 use Rattle.walking.proofs.Data.{Data}
 use Rattle.walking.proofs.One.{One, row}
-use Rattle.walking.proofs.Copied.{Copied, copied-len, copied-next, element-fits}
+use Rattle.walking.proofs.Copied.{Copied, copied-len, copied-next, element-fits, holds, fails, decide}
 
 pub record Takings (chip answer : One) : Type 2 where
   pub Denot : Type 0
@@ -90,18 +90,6 @@ module _ (chip answer note : One) where
 
   abbrev pub does : {M : Type 1} (𝓤 : URA M) → Claims → Clauses 𝓤 self-ended
   does 𝓤 Said κs a = record { ghost = Unit {0}; requires = λ _. emp 𝓤; ensures = λ _ r e. fact 𝓤 (Said (now (a .0)) (now (a .1 .0)) (now (a .1 .1 .0)) r (now (e .0)) (now (e .1 .0)) (now (e .1 .1 .0))) }
-
-holds : (t : Bool) → T t → t ≡ true
-holds true _ = refl
-holds false a = absurd a
-
-fails : (t : Bool) → T (not t) → t ≡ false
-fails true a = absurd a
-fails false _ = refl
-
-decide {χ} : {P : Type χ} (t : Bool) → (T t → P) → (T (not t) → P) → P
-decide true f g = f tt
-decide false f g = g tt
 
 module _ (chip answer note : One) (taking : Takings chip answer) (dc : Data (row chip)) (da : Data (row answer)) (dn : Data (row note)) (lo : TakLaws chip answer taking dc da) (d₀ : note .Denot) (bytes : ℕ) (bytes-lit : T (ltb bytes (2 ^ 64))) (sz : bytes ≡ size (note .ty)) where
   abbrev pub code : Name → Fn

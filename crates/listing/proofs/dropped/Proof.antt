@@ -1,0 +1,43 @@
+-- `listing::dropped` meets its contract.
+-- Assumes nothing.
+use native.Mathlib.Omega.{arith}
+use Rattle.listing.proofs.Lines.{after-decimal}
+use Rattle.listing.proofs.Appending.{also, within}
+use borrow.Author.Needs.{needs}
+use Rattle.listing.proofs.dropped.Statement.{statement}
+use Rattle.listing.proofs.dropped.Tie as tie
+
+slice-aggregate-text : tie.Need-slice-aggregate-text
+slice-aggregate-text c = search needs
+
+text-requires : tie.Need-text-requires
+text-requires c κs = search needs
+
+decimal-requires : tie.Need-decimal-requires
+decimal-requires c κs = search needs
+
+byte-requires : tie.Need-byte-requires
+byte-requires c κs = omega (arith, after-decimal)
+
+same-length : tie.Need-same-length
+same-length c = search needs
+
+returns : tie.Need-returns
+returns c =
+    let at-byte = c .before .before in
+    let at-decimal = at-byte .before .before .before .before in
+    let at-text = at-decimal .before .before .before .before in
+    let start = at-text .before .before .before .before in
+    let h = within 48 (start .pre) in
+    also h (also h (at-text .text .ensures) (at-decimal .decimal .ensures)) (at-byte .byte .ensures)
+
+pub dropped-spec : {M : Type 1} → statement M
+dropped-spec =
+    tie.close
+    (tie.spec
+    slice-aggregate-text
+    text-requires
+    decimal-requires
+    byte-requires
+    same-length
+    returns)

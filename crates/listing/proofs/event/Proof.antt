@@ -1,0 +1,67 @@
+-- `listing::event` meets its contract.
+-- Assumes nothing.
+use native.Mathlib.Omega.{arith}
+use Rattle.listing.proofs.Appending.{also, within}
+use Rattle.listing.proofs.Lines.{after-decimal, after-event-word}
+use borrow.Author.Needs.{needs}
+use Rattle.listing.proofs.event.Statement.{statement}
+use Rattle.listing.proofs.event.Tie as tie
+
+decimal-requires : tie.Need-decimal-requires
+decimal-requires c κs = search needs
+
+byte-requires : tie.Need-byte-requires
+byte-requires c κs = omega (arith, after-decimal, after-event-word)
+
+event-word-requires : tie.Need-event-word-requires
+event-word-requires c κs = omega (arith, after-decimal, after-event-word)
+
+byte-requires-2 : tie.Need-byte-requires-2
+byte-requires-2 c κs = omega (arith, after-decimal, after-event-word)
+
+hex-requires : tie.Need-hex-requires
+hex-requires c κs = omega (arith, after-decimal, after-event-word)
+
+byte-requires-3 : tie.Need-byte-requires-3
+byte-requires-3 c κs = omega (arith, after-decimal, after-event-word)
+
+hex-requires-2 : tie.Need-hex-requires-2
+hex-requires-2 c κs = omega (arith, after-decimal, after-event-word)
+
+byte-requires-4 : tie.Need-byte-requires-4
+byte-requires-4 c κs = omega (arith, after-decimal, after-event-word)
+
+same-length : tie.Need-same-length
+same-length c = search needs
+
+returns : tie.Need-returns
+returns c =
+    let at-byte4 = c .before .before in
+    let at-hex2 = at-byte4 .before .before .before .before in
+    let at-byte3 = at-hex2 .before .before .before .before in
+    let at-hex = at-byte3 .before .before .before .before in
+    let at-byte2 = at-hex .before .before .before .before in
+    let at-event-word = at-byte2 .before .before .before .before in
+    let at-byte = at-event-word .before .before .before .before in
+    let at-decimal = at-byte .before .before .before .before in
+    let start = at-decimal .before .before .before in
+    let h = within 48 (start .pre) in
+    let word = also h (also h (at-decimal .decimal .ensures) (at-byte .byte .ensures)) (at-event-word .event-word .ensures) in
+    let value = also h (also h word (at-byte2 .byte2 .ensures)) (at-hex .hex .ensures) in
+    let answer = also h (also h value (at-byte3 .byte3 .ensures)) (at-hex2 .hex2 .ensures) in
+    also h answer (at-byte4 .byte4 .ensures)
+
+pub event-spec : {M : Type 1} → statement M
+event-spec =
+    tie.close
+    (tie.spec
+    decimal-requires
+    byte-requires
+    event-word-requires
+    byte-requires-2
+    hex-requires
+    byte-requires-3
+    hex-requires-2
+    byte-requires-4
+    same-length
+    returns)

@@ -1,0 +1,67 @@
+-- `listing::report` meets its contract.
+-- Assumes nothing.
+use native.Mathlib.Omega.{arith}
+use Rattle.diagnostics.specs.Reports.{lineOf}
+use Rattle.listing.proofs.Lines.{after-decimal, after-report-word, after-columns}
+use Rattle.listing.proofs.Appending.{also, also-columns, within}
+use borrow.Author.Needs.{needs}
+use Rattle.listing.proofs.report.Statement.{statement}
+use Rattle.listing.proofs.report.Tie as tie
+
+slice-aggregate-text : tie.Need-slice-aggregate-text
+slice-aggregate-text c = search needs
+
+text-requires : tie.Need-text-requires
+text-requires c κs = search needs
+
+decimal-requires : tie.Need-decimal-requires
+decimal-requires c κs = search needs
+
+byte-requires : tie.Need-byte-requires
+byte-requires c κs = omega (arith, after-decimal, after-report-word, after-columns)
+
+report-word-requires : tie.Need-report-word-requires
+report-word-requires c κs = omega (arith, after-decimal, after-report-word, after-columns)
+
+byte-requires-2 : tie.Need-byte-requires-2
+byte-requires-2 c κs = omega (arith, after-decimal, after-report-word, after-columns)
+
+columns-requires : tie.Need-columns-requires
+columns-requires c κs = omega (arith, after-decimal, after-report-word, after-columns)
+
+byte-requires-3 : tie.Need-byte-requires-3
+byte-requires-3 c κs = omega (arith, after-decimal, after-report-word, after-columns)
+
+same-length : tie.Need-same-length
+same-length c = search needs
+
+returns : tie.Need-returns
+returns c =
+    let at-byte3 = c .before .before in
+    let at-columns = at-byte3 .before .before .before .before in
+    let at-byte2 = at-columns .before .before .before .before in
+    let at-report-word = at-byte2 .before .before .before .before in
+    let at-byte = at-report-word .before .before .before .before in
+    let at-decimal = at-byte .before .before .before .before in
+    let at-text = at-decimal .before .before .before .before in
+    let start = at-text .before .before .before .before in
+    let h = within 48 (start .pre) in
+    let instant = also h (also h (at-text .text .ensures) (at-decimal .decimal .ensures)) (at-byte .byte .ensures) in
+    let word = also h (also h instant (at-report-word .report-word .ensures)) (at-byte2 .byte2 .ensures) in
+    let line = also-columns (lineOf (start .args .diagnostic .kind)) h word (at-columns .columns .ensures) in
+    also h line (at-byte3 .byte3 .ensures)
+
+pub report-spec : {M : Type 1} → statement M
+report-spec =
+    tie.close
+    (tie.spec
+    slice-aggregate-text
+    text-requires
+    decimal-requires
+    byte-requires
+    report-word-requires
+    byte-requires-2
+    columns-requires
+    byte-requires-3
+    same-length
+    returns)

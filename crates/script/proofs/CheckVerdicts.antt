@@ -1,0 +1,79 @@
+-- How the verdict on a script follows from the answers for its length and its records.
+-- Assumes nothing.
+use Prim.Native.Nat.{ℕ, suc, _+_, _-_, _≤_, _<_}
+use mathlib.Core.Bool.{Bool, true, false}
+use mathlib.Core.List.{List}
+use mathlib.Core.Path.{_≡_, refl, sym, _∙_, ap}
+use native.Mathlib.Numerals.{add-one}
+use native.Mathlib.Omega.{arith}
+use lib.Dec.{eqb}
+use lib.IntN.{ℤ}
+use lib.ListN.{length}
+use Rattle.refusals.specs.Numbered.{Numbered, accepted, refused, andThen}
+use Rattle.computed.specs.Choice.{if_then_else_}
+use Rattle.script.specs.Records.{instantOf, kindOf, valueOf, padded, faultOf, lastOf, recordFault, recordsIn, checkedLength, checkedFrom, checkedRecords, checkedScript}
+use Rattle.script.specs.Answers.{faultNumbered, checkNumbered, checkedFault, CheckedRecord}
+use Rattle.script.specs.declared.ScriptFault.{ScriptFault}
+use Rattle.script.specs.declared.ScriptFault.the-variants.{TooLong, NotWhole, Kind, Value, Padding, Falling}
+use Rattle.script.specs.declared.CheckAnswer.{CheckAnswer}
+use Rattle.script.specs.declared.CheckAnswer.the-variants.{Legal, Refused}
+
+-- a fault is the answer, whatever comes after
+fault-stands : (f : ScriptFault) (x : Numbered (Unit {0})) → faultNumbered f ≡ andThen (faultNumbered f) x
+fault-stands TooLong x = refl
+fault-stands NotWhole x = refl
+fault-stands (Kind i) x = refl
+fault-stands (Value i) x = refl
+fault-stands (Padding i) x = refl
+fault-stands (Falling i) x = refl
+
+-- ---- the script
+
+module _ (s : List ℕ) (r : CheckAnswer) where
+  pub legal-length : r ≡ Legal → checkNumbered r ≡ checkedLength (length s) → checkedRecords s ≡ checkedScript s
+  legal-length e p = ap (λ (v : Numbered (Unit {0})). andThen v (checkedRecords s)) (sym (ap checkNumbered e) ∙ p)
+
+  pub bad-length : (f : ScriptFault) → r ≡ Refused f → checkNumbered r ≡ checkedLength (length s) → faultNumbered f ≡ checkedScript s
+  bad-length f e p = fault-stands f _ ∙ ap (λ (v : Numbered (Unit {0})). andThen v (checkedRecords s)) (sym (ap checkNumbered e) ∙ p)
+
+-- ---- its records
+
+-- records 0 to i - 1 of n are legal, and the last of them is at last
+pub record Passed (s : List ℕ) (n i last : ℕ) : Type 0 where
+  pub number : n ≡ recordsIn s
+  pub within : i ≤ n
+  pub checked : checkedRecords s ≡ checkedFrom s i (n - i)
+  pub before : last ≡ lastOf s i
+
+chosen-then : (b : Bool) (x : Numbered (Unit {0})) (n : ℕ) (values : List ℤ) → (if b then x else refused n values) ≡ andThen (if b then accepted (tt {0}) else refused n values) x
+chosen-then true x n values = refl
+chosen-then false x n values = refl
+
+first-then : (s : List ℕ) (i m : ℕ) → checkedFrom s i (suc m) ≡ andThen (checkedFault (recordFault s i) i) (checkedFrom s (i + 1) m)
+unfolding checkedFrom
+first-then s i m = chosen-then (eqb (recordFault s i) 0) _ _ _
+
+module _ (s : List ℕ) (n i last : ℕ) (p : Passed s n i last) where
+  -- the answer for record i, then the verdict on those after it
+  record-then : i < n → (r : CheckAnswer) → CheckedRecord s i last r → checkedRecords s ≡ andThen (checkNumbered r) (checkedFrom s (i + 1) (n - (i + 1)))
+  unfolding recordFault
+  record-then h r e =
+      let k : n - i ≡ suc (n - (i + 1)) = omega arith in
+      let f : faultOf last (instantOf s i) (kindOf s i) (valueOf s i) (padded s i) ≡ recordFault s i = ap (λ (l : ℕ). faultOf l (instantOf s i) (kindOf s i) (valueOf s i) (padded s i)) (p .before) in
+      p .checked ∙ ap (checkedFrom s i) k ∙ first-then s i _
+      ∙ ap (λ (v : Numbered (Unit {0})). andThen v (checkedFrom s (i + 1) (n - (i + 1)))) (sym (e ∙ ap (λ (m : ℕ). checkedFault m i) f))
+
+  module _ (h : i < n) (r : CheckAnswer) (e : CheckedRecord s i last r) where
+    pub stops : (f : ScriptFault) → r ≡ Refused f → faultNumbered f ≡ checkedRecords s
+    stops f q = fault-stands f _ ∙ sym (record-then h (Refused f) (sym (ap checkNumbered q) ∙ e))
+
+    pub passes : (at : ℕ) → r ≡ Legal → at ≡ instantOf s i → Passed s n (i + 1) at
+    passes at q a = record { number = p .number; within = omega arith; checked = record-then h Legal (sym (ap checkNumbered q) ∙ e); before = a ∙ ap (lastOf s) (sym (add-one i)) }
+
+  pub ends : n ≤ i → accepted (tt {0}) ≡ checkedRecords s
+  unfolding checkedFrom
+  ends h = let k : n - i ≡ 0 = omega arith in sym (p .checked ∙ ap (checkedFrom s i) k)
+
+-- no record is passed at first
+pub none-passed : (s : List ℕ) → Passed s (recordsIn s) 0 0
+none-passed s = let k : recordsIn s ≡ recordsIn s - 0 = omega arith in record { number = refl; within = omega arith; checked = ap (checkedFrom s 0) k; before = refl }

@@ -1,0 +1,50 @@
+-- The host's number of a check and of a run fits in 32 bits.
+-- Assumes nothing.
+use Prim.Native.Nat.{ℕ, zero, suc, _+_, _≤_, _<_, _%_}
+use mathlib.Core.Bool.{Bool, not}
+use mathlib.Core.List.{List}
+use native.Mathlib.Omega.{arith}
+use lib.Dec.{ltb, eqb}
+use lib.ListN.{length}
+use borrow.Author.Tests.{ltb-false}
+use Rattle.refusals.specs.Numbered.{Numbered, andThen}
+use Rattle.computed.proofs.Choice.{chosen}
+use Rattle.script.specs.Records.{recordsIn, instantOf, kindOf, valueOf, padded, badValue, faultOf, lastOf, recordFault, checkedLength, checkedFrom, checkedRecords, checkedScript}
+use Rattle.script.specs.Runs.{checkedRoom, checkedRun, hostNumber}
+use Rattle.script.proofs.RunVerdicts.{run-is}
+
+fault-to : (last at kind value : ℕ) (zeros : Bool) → faultOf last at kind value zeros ≤ 19
+unfolding faultOf
+fault-to last at kind value zeros =
+    chosen (λ x. x ≤ 19) (ltb 3 kind) (λ e. omega arith)
+    (λ e. chosen (λ x. x ≤ 19) (badValue kind value) (λ e. omega arith)
+    (λ e. chosen (λ x. x ≤ 19) (not zeros) (λ e. omega arith)
+    (λ e. chosen (λ x. x ≤ 19) (ltb at last) (λ e. omega arith) (λ e. omega arith))))
+
+record-to : (s : List ℕ) (i : ℕ) → recordFault s i ≤ 19
+unfolding recordFault
+record-to s i = fault-to (lastOf s i) (instantOf s i) (kindOf s i) (valueOf s i) (padded s i)
+
+abbrev Fits : Numbered (Unit {0}) → Type 0
+Fits v = hostNumber v < 4294967296
+
+records-fit : (s : List ℕ) (n i : ℕ) → i + n ≤ 2048 → Fits (checkedFrom s i n)
+unfolding checkedFrom
+records-fit s zero i l = omega arith
+records-fit s (suc n) i l = chosen Fits (eqb (recordFault s i) 0) (λ e. records-fit s n (i + 1) (omega arith)) (λ e. omega (arith, record-to s i))
+
+-- what is checked after the length is of a script of at most 32,768 bytes
+after-length : (n : ℕ) (v : Numbered (Unit {0})) → (n ≤ 32768 → Fits v) → Fits (andThen (checkedLength n) v)
+unfolding checkedLength
+after-length n v h =
+    chosen (λ w. Fits (andThen w v)) (ltb 32768 n) (λ e. omega arith)
+    (λ e. chosen (λ w. Fits (andThen w v)) (eqb (n % 16) 0) (λ e₂. h (ltb-false 32768 n e)) (λ e₂. omega arith))
+
+pub check-fits : (s : List ℕ) → Fits (checkedScript s)
+check-fits s = after-length (length s) (checkedRecords s) (λ l. records-fit s (recordsIn s) 0 (omega arith))
+
+pub run-fits : (s : List ℕ) (room : ℕ) → Fits (checkedRun s room)
+unfolding checkedRoom
+run-fits s room =
+    rw run-is
+    (after-length (length s) (checkedRoom s room) (λ l. chosen Fits (eqb room (recordsIn s)) (λ e. records-fit s (recordsIn s) 0 (omega arith)) (λ e. omega arith)))

@@ -1,0 +1,72 @@
+-- Laws of the run's definitions: there is an answer for each record, and it is that record's; and the numbered answer of a run loses nothing.
+-- Assumes nothing.
+use Prim.Native.Nat.{ℕ, zero, suc, _+_, _<_}
+use mathlib.Core.List.{List, [], _∷_}
+use mathlib.Core.Logic.{⊎-elim}
+use mathlib.Core.Path.{_≡_, refl, sym, ap, _∙_}
+use native.Mathlib.Nat.{not-suc-le-zero, le-of-suc-le-suc, eq-or-lt-of-le}
+use native.Mathlib.Omega.{arith}
+use lib.Dec.{eqb}
+use lib.ListN.{length, getD, length-append, List·getD-append}
+use lib.Seq.{getD-append-add}
+use Rattle.refusals.specs.Numbered.{Numbered, accepted, refused}
+use Rattle.computed.specs.Choice.{if_then_else_}
+use Rattle.computed.proofs.Lossless.{lossless}
+use Rattle.script.specs.Runs.{Held, answersTo, answerAt, runNumbered, recordOf}
+use Rattle.script.specs.declared.ScriptFault.{ScriptFault}
+use Rattle.script.specs.declared.ScriptFault.the-variants.{TooLong, NotWhole, Kind, Value, Padding, Falling}
+use Rattle.script.specs.declared.runs.RunAnswer.{RunAnswer}
+use Rattle.script.specs.declared.runs.RunAnswer.the-variants.{Done, NotSound, StoreLength, AnswersLength, Script}
+
+module _ (s : List ℕ) (h : Held) where
+  pub answers-length : (n : ℕ) → length (answersTo s h n) ≡ n
+  unfolding answersTo
+  answers-length zero = refl
+  answers-length (suc n) = length-append (answersTo s h n) (answerAt s h n ∷ []) ∙ omega (arith, answers-length n)
+
+  -- the last of them
+  last : (n i : ℕ) → i ≡ n → getD (answersTo s h (suc n)) i 0 ≡ answerAt s h i
+  unfolding answersTo
+  last n i e =
+      let k : i ≡ length (answersTo s h n) + 0 = omega (arith, answers-length n) in
+      ap (λ (j : ℕ). getD (answersTo s h (suc n)) j 0) k ∙ getD-append-add (answersTo s h n) (answerAt s h n ∷ []) 0 0 ∙ ap (answerAt s h) (sym e)
+
+  pub answers-at : (n i : ℕ) → i < n → getD (answersTo s h n) i 0 ≡ answerAt s h i
+  unfolding answersTo
+  answers-at zero i l = absurd (not-suc-le-zero l)
+  answers-at (suc n) i l =
+      ⊎-elim (last n i)
+      (λ k. List·getD-append (answersTo s h n) (answerAt s h n ∷ []) 0 i (omega (arith, answers-length n)) ∙ answers-at n i k)
+      (eq-or-lt-of-le (le-of-suc-le-suc l))
+
+-- the answer that a number stands for
+abbrev runOf : Numbered (Unit {0}) → RunAnswer
+runOf (accepted u) = Done
+runOf (refused n vs) =
+    if eqb n 10 then NotSound
+    else if eqb n 11 then StoreLength
+    else if eqb n 15 then AnswersLength
+    else if eqb n 14 then Script TooLong
+    else if eqb n 13 then Script NotWhole
+    else if eqb n 16 then Script (Kind (recordOf vs))
+    else if eqb n 17 then Script (Value (recordOf vs))
+    else if eqb n 18 then Script (Padding (recordOf vs))
+    else Script (Falling (recordOf vs))
+
+fault-back : (f : ScriptFault) → runOf (runNumbered (Script f)) ≡ Script f
+fault-back TooLong = refl
+fault-back NotWhole = refl
+fault-back (Kind i) = refl
+fault-back (Value i) = refl
+fault-back (Padding i) = refl
+fault-back (Falling i) = refl
+
+run-back : (r : RunAnswer) → runOf (runNumbered r) ≡ r
+run-back Done = refl
+run-back NotSound = refl
+run-back StoreLength = refl
+run-back AnswersLength = refl
+run-back (Script f) = fault-back f
+
+pub run-lossless : (a b : RunAnswer) → runNumbered a ≡ runNumbered b → a ≡ b
+run-lossless = lossless runNumbered runOf run-back

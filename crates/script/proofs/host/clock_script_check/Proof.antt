@@ -1,0 +1,33 @@
+-- `script::host::clock_script_check` meets its contract.
+-- Assumes nothing.
+use mathlib.Core.Path.{sym, ap, _∙_}
+use Rattle.script.specs.Answers.{checkNumbered}
+use Rattle.script.specs.Runs.{hostNumber}
+use Rattle.script.proofs.HostLaws.{check-fits}
+use borrow.Author.Needs.{needs}
+use Rattle.script.proofs.host.clock_script_check.Statement.{statement}
+use Rattle.script.proofs.host.clock_script_check.Tie as tie
+
+check-requires : tie.Need-check-requires
+check-requires c κs = search needs
+
+enum-told : tie.Need-enum-told
+enum-told c = search needs
+
+enum-known-fault : tie.Need-enum-known-fault
+enum-known-fault c = search needs
+
+fault-number-requires : tie.Need-fault-number-requires
+fault-number-requires c κs =
+    rw (← (c .before .before .before .check .ensures), c .before .fault .given .1) at (check-fits (c .before .before .before .before .before .args .script .now))
+
+returns : tie.Need-returns
+returns c = ap hostNumber (sym (ap checkNumbered (c .enum-told .given .1)) ∙ c .before .before .check .ensures)
+
+returns-2 : tie.Need-returns-2
+returns-2 c = c .fault-number .ensures ∙ ap hostNumber (sym (ap checkNumbered (c .before .before .fault .given .1)) ∙ c .before .before .before .before .check .ensures)
+
+pub clock-script-check-spec : {M : Type 1} → statement M
+clock-script-check-spec =
+    tie.close
+    (tie.spec check-requires enum-told enum-known-fault fault-number-requires returns returns-2)

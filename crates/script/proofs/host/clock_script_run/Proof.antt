@@ -1,0 +1,24 @@
+-- `script::host::clock_script_run` meets its contract.
+-- Assumes nothing.
+use mathlib.Core.Path.{ap, _∙_}
+use Rattle.script.specs.Runs.{hostNumber}
+use Rattle.script.proofs.HostLaws.{run-fits}
+use borrow.Author.Needs.{needs}
+use Rattle.script.proofs.host.clock_script_run.Statement.{statement}
+use Rattle.script.proofs.host.clock_script_run.Tie as tie
+
+run-from-power-on-requires : tie.Need-run-from-power-on-requires
+run-from-power-on-requires c κs = search needs
+
+run-number-requires : tie.Need-run-number-requires
+run-number-requires c κs = rw (c .before .before .run-from-power-on .ensures .answers) (run-fits _ _)
+
+same-length : tie.Need-same-length
+same-length c = search needs
+
+returns : tie.Need-returns
+returns c = let r = c .before .before .before .run-from-power-on .ensures in (c .run-number .ensures ∙ ap hostNumber (r .answers), r .bytes)
+
+pub clock-script-run-spec : {M : Type 1} → statement M
+clock-script-run-spec =
+    tie.close (tie.spec run-from-power-on-requires run-number-requires same-length returns)

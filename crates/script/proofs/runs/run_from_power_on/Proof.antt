@@ -1,0 +1,32 @@
+-- `script::runs::run_from_power_on` meets its contract.
+-- Assumes nothing.
+use mathlib.Core.Path.{ap}
+use lib.ListN.{replicate}
+use Rattle.diagnostics.specs.declared.I2cDiagnostic.{I2cDiagnostic}
+use Rattle.script.proofs.RunVerdicts.{powers-on, runs-from}
+use borrow.Author.Needs.{needs}
+use Rattle.script.proofs.runs.run_from_power_on.Statement.{statement}
+use Rattle.script.proofs.runs.run_from_power_on.Tie as tie
+
+power-on-requires : tie.Need-power-on-requires
+power-on-requires c κs = search needs
+
+unwritten-requires : tie.Need-unwritten-requires
+unwritten-requires c κs = search needs
+
+run-values-requires : tie.Need-run-values-requires
+run-values-requires c κs = search needs
+
+same-length : tie.Need-same-length
+same-length c = search needs
+
+returns : tie.Need-returns
+returns c =
+    let r = c .before .before in
+    runs-from _ _ _ _ (powers-on _ (r .before .before .before .before .power-on .ensures))
+    (ap (λ (d : I2cDiagnostic). replicate 256 d) (r .before .before .unwritten .ensures)) _ _ (r .run-values .ensures)
+
+pub run-from-power-on-spec : {M : Type 1} → statement M
+run-from-power-on-spec =
+    tie.close
+    (tie.spec power-on-requires unwritten-requires run-values-requires same-length returns)

@@ -1,0 +1,247 @@
+// The run of a script: each record's event on the chip, its answer, and its report in the store.
+ghost use mathlib.Core.Path.{_≡_};
+ghost use Prim.Native.Nat.{_≤_, _+_, _*_};
+ghost use lib.ListN.{length};
+ghost use Rattle.ds3231_bus.specs.Answers.{busNumbered, OutcomeOn};
+ghost use Rattle.script.specs.Records.{recordsIn};
+ghost use Rattle.script.specs.Runs.{eventOf, answerByte, unwritten, runNumbered, checkedRun, verdictOn, checkedRoom, Ran, RanOn, RanFrom, RanThrough, wholeOf};
+use crate::CheckAnswer;
+use crate::RECORD;
+use crate::ScriptFault;
+use crate::checks::check_length;
+use crate::checks::check_records;
+use crate::records;
+use calendar::DateTime;
+use diagnostics::ChipName;
+use diagnostics::I2cDiagnostic;
+use diagnostics::I2cDiagnosticKind;
+use diagnostics::MAX_DIAGNOSTICS;
+use ds3231::Ds3231;
+use ds3231::Ds3231Config;
+use ds3231_bus::BusAnswer;
+use ds3231_bus::Outcome;
+use ds3231_bus::addressed;
+use ds3231_bus::has_read;
+use ds3231_bus::stopped;
+use ds3231_bus::written;
+use ds3231_step::is_sound;
+use ds3231_step::power_on;
+
+// What a run answers.
+pub enum RunAnswer {
+    Done,
+    NotSound,
+    // The store does not have 256 records.
+    StoreLength,
+    // Not one answer byte is lent for each record.
+    AnswersLength,
+    Script(ScriptFault),
+}
+
+// The chip and the records after a run, and its answer.
+pub struct RunOutcome {
+    pub chip: Ds3231,
+    pub answer: RunAnswer,
+    pub records: [I2cDiagnostic; 256],
+}
+
+// Runs a script from 2026-01-01T00:00:00, oscillator not stopped, 100 quarters.
+pub fn run_from_power_on(script: &[u8], answers: &mut [u8]) -> RunOutcome
+    ensures { λ r. ⌜ RanFrom (now (script .entry)) (now (answers .entry)) r (now (answers .exit)) ⌝ }
+{
+    let start = DateTime {
+        year: 2026,
+        month: 1,
+        day: 1,
+        hour: 0,
+        minute: 0,
+        second: 0,
+    };
+    let config = Ds3231Config {
+        start,
+        oscillator_stopped: false,
+        temperature_quarters: 100,
+    };
+    let powered = power_on(config);
+    let chip = powered.chip;
+    let unwritten = unwritten();
+    let records = [unwritten; 256];
+    run_values(chip, records, script, answers)
+}
+
+// What stands in a record that no report was written to.
+fn unwritten() -> I2cDiagnostic
+    ensures { λ r. ⌜ r ≡ unwritten ⌝ }
+{
+    I2cDiagnostic {
+        at: 0,
+        chip: ChipName::Ds3231,
+        kind: I2cDiagnosticKind::ReadOnly { register: 0 },
+    }
+}
+
+// Runs a script on a lent chip and a lent store. The store's records are copied into a local array, and back.
+pub fn run(
+    chip: &mut Ds3231,
+    store: &mut [I2cDiagnostic],
+    script: &[u8],
+    answers: &mut [u8],
+) -> RunAnswer
+    ensures { λ r. ⌜ Ran (record { chip = now (chip .entry); store = now (store .entry) }) (now (script .entry)) (now (answers .entry)) r (now (chip .exit)) (now (store .exit)) (now (answers .exit)) ⌝ }
+{
+    let c = *chip;
+    let n = whole(store.len());
+    let mut records = [unwritten(); 256];
+    let mut i = 0;
+    while i < n {
+        records[i] = store[i];
+        i += 1;
+    }
+    let out = ran(c, store.len(), records, script, answers);
+    *chip = out.chip;
+    let back = out.records;
+    let mut j = 0;
+    while j < n {
+        store[j] = back[j];
+        j += 1;
+    }
+    out.answer
+}
+
+// How many records of a store are copied: all of 256, else none.
+fn whole(len: usize) -> usize
+    ensures { λ r. ⌜ r ≡ wholeOf len ⌝ }
+{
+    if len == MAX_DIAGNOSTICS {
+        return MAX_DIAGNOSTICS;
+    }
+    0
+}
+
+// Runs a script on a chip and 256 records.
+pub fn run_values(
+    chip: Ds3231,
+    records: [I2cDiagnostic; 256],
+    script: &[u8],
+    answers: &mut [u8],
+) -> RunOutcome
+    ensures { λ r. ⌜ Ran (record { chip = chip; store = records }) (now (script .entry)) (now (answers .entry)) (r .answer) (r .chip) (r .records) (now (answers .exit)) ⌝ }
+{
+    ran(chip, MAX_DIAGNOSTICS, records, script, answers)
+}
+
+// The same for a store of `len` records, which are `records` where there are 256: else the run is refused.
+pub(crate) fn ran(
+    chip: Ds3231,
+    len: usize,
+    records: [I2cDiagnostic; 256],
+    script: &[u8],
+    answers: &mut [u8],
+) -> RunOutcome
+    ensures { λ r. ⌜ RanOn chip len records (now (script .entry)) (now (answers .entry)) r (now (answers .exit)) ⌝ }
+{
+    let verdict = checked(chip, len, script, answers.len());
+    match verdict {
+        RunAnswer::Done => events(chip, records, script, answers),
+        _ => RunOutcome {
+            chip,
+            answer: verdict,
+            records,
+        },
+    }
+}
+
+// The first refusal, or `Done` where the run goes through: the chip, the store of `len` records, then the script.
+fn checked(chip: Ds3231, len: usize, script: &[u8], room: usize) -> RunAnswer
+    ensures { λ r. ⌜ runNumbered r ≡ verdictOn chip len (now (script .entry)) room ⌝ }
+{
+    if !is_sound(chip) {
+        return RunAnswer::NotSound;
+    }
+    if len != MAX_DIAGNOSTICS {
+        return RunAnswer::StoreLength;
+    }
+    checked_run(script, room)
+}
+
+// The script's length, then the `room` for answers, then its records.
+fn checked_run(script: &[u8], room: usize) -> RunAnswer
+    ensures { λ r. ⌜ runNumbered r ≡ checkedRun (now (script .entry)) room ⌝ }
+{
+    match check_length(script.len()) {
+        CheckAnswer::Legal => checked_room(script, room),
+        CheckAnswer::Refused(fault) => RunAnswer::Script(fault),
+    }
+}
+
+// An answer byte for each record, then the records.
+fn checked_room(script: &[u8], room: usize) -> RunAnswer
+    ensures { λ r. ⌜ runNumbered r ≡ checkedRoom (now (script .entry)) room ⌝ }
+{
+    if room != script.len() / RECORD {
+        return RunAnswer::AnswersLength;
+    }
+    match check_records(script) {
+        CheckAnswer::Legal => RunAnswer::Done,
+        CheckAnswer::Refused(first) => RunAnswer::Script(first),
+    }
+}
+
+// Every record's event in turn.
+fn events(
+    mut chip: Ds3231,
+    mut records: [I2cDiagnostic; 256],
+    script: &[u8],
+    answers: &mut [u8],
+) -> RunOutcome
+    requires { ⌜ length (now answers) ≡ recordsIn (now script) ⌝ }
+    ensures { λ r. ⌜ RanThrough (record { chip = chip; store = records }) (now (script .entry)) r (now (answers .exit)) ⌝ }
+{
+    let n = answers.len();
+    let mut i = 0;
+    while i < n {
+        let out = outcome(chip, script, i);
+        chip = out.chip;
+        let slot = out.slot;
+        let diagnostic = out.diagnostic;
+        if out.write {
+            records[slot] = diagnostic;
+        }
+        let answer = out.answer;
+        answers[i] = answer_byte(answer);
+        i += 1;
+    }
+    RunOutcome {
+        chip,
+        answer: RunAnswer::Done,
+        records,
+    }
+}
+
+// What the event of record `i` leaves.
+fn outcome(chip: Ds3231, script: &[u8], i: usize) -> Outcome
+    requires { ⌜ 16 * i + 16 ≤ length (now script) ⌝ }
+    ensures { λ r. ⌜ OutcomeOn (eventOf (now (script .entry)) i) chip 256 r ⌝ }
+{
+    let value = records::value(script, i);
+    let at = records::instant(script, i);
+    match records::kind(script, i) {
+        0 => addressed(chip, MAX_DIAGNOSTICS, value / 2, value % 2 == 1, at),
+        1 => written(chip, MAX_DIAGNOSTICS, value, at),
+        2 => has_read(chip, MAX_DIAGNOSTICS, value == 1, at),
+        _ => stopped(chip, MAX_DIAGNOSTICS, at),
+    }
+}
+
+// START and WRITE 1 or 0, READ the byte, STOP 0.
+fn answer_byte(answer: BusAnswer) -> u8
+    ensures { λ r. ⌜ r ≡ answerByte (busNumbered answer) ⌝ }
+{
+    match answer {
+        BusAnswer::Acknowledge(acknowledged) => acknowledged as u8,
+        BusAnswer::Byte(byte) => byte,
+        BusAnswer::Done => 0,
+        BusAnswer::NotSound => 0,
+        BusAnswer::StoreLength => 0,
+    }
+}

@@ -9,6 +9,7 @@ use lib.IntN.{pos}
 use lib.ListN.{length, getD}
 use Rattle.refusals.specs.Numbered.{Numbered, accepted, refused, andThen}
 use Rattle.computed.specs.Choice.{if_then_else_}
+use Rattle.script.specs.declared.records.Record.{Record}
 
 -- ---- a record: sixteen bytes
 
@@ -58,6 +59,10 @@ recordFault s i = faultOf (lastOf s i) (instantOf s i) (kindOf s i) (valueOf s i
 -- how many records a script has
 abbrev pub recordsIn : List ℕ → ℕ
 recordsIn s = length s / 16
+
+-- record i, or zeros where the script has fewer
+abbrev pub recordAt : List ℕ → ℕ → Record
+recordAt s i = if ltb i (recordsIn s) then record { at = instantOf s i; kind = kindOf s i; value = valueOf s i } else record { at = 0; kind = 0; value = 0 }
 
 -- a legal script: at most 32,768 bytes, whole records, and nothing wrong with any
 pub record Legal (s : List ℕ) : Type 0 where

@@ -6,6 +6,8 @@ mod records;
 mod runs;
 
 pub use checks::check;
+pub use records::Record;
+pub use records::record_at;
 pub use runs::RunAnswer;
 pub use runs::RunOutcome;
 pub use runs::run;

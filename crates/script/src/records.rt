@@ -2,8 +2,32 @@
 ghost use mathlib.Core.Path.{_≡_};
 ghost use Prim.Native.Nat.{_≤_, _+_, _*_};
 ghost use lib.ListN.{length};
-ghost use Rattle.script.specs.Records.{instantOf, kindOf, valueOf, padded};
+ghost use Rattle.script.specs.Records.{instantOf, kindOf, valueOf, padded, recordAt};
 use crate::RECORD;
+
+// A record's fields.
+pub struct Record {
+    pub at: u64,
+    pub kind: u8,
+    pub value: u8,
+}
+
+// Record i, or zeros where the script has fewer.
+pub fn record_at(script: &[u8], i: usize) -> Record
+    ensures { λ r. ⌜ r ≡ recordAt (now (script .entry)) i ⌝ }
+{
+    if i >= script.len() / RECORD {
+        return Record {
+            at: 0,
+            kind: 0,
+            value: 0,
+        };
+    }
+    let at = instant(script, i);
+    let kind = kind(script, i);
+    let value = value(script, i);
+    Record { at, kind, value }
+}
 
 // Bytes 0 to 7, lowest first.
 pub(crate) fn instant(script: &[u8], i: usize) -> u64

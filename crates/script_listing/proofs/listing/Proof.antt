@@ -1,0 +1,61 @@
+-- `script_listing::listing` meets its contract.
+-- Assumes nothing.
+use mathlib.Core.Path.{sym, ap, _∙_}
+use Rattle.script.specs.Answers.{checkNumbered}
+use Rattle.script_listing.proofs.Whole.{no-room, when-legal, when-refused}
+use borrow.Author.Needs.{needs}
+use Rattle.script_listing.proofs.listing.Statement.{statement}
+use Rattle.script_listing.proofs.listing.Tie as tie
+
+returns : tie.Need-returns
+returns c = no-room (c .before .before .before .args .script .now) _ (c .if1 .taken)
+
+check-requires : tie.Need-check-requires
+check-requires c κs = search needs
+
+enum-told : tie.Need-enum-told
+enum-told c = search needs
+
+ran-requires : tie.Need-ran-requires
+ran-requires c κs = (sym (c .before .before .before .check .ensures) ∙ ap checkNumbered (c .before .enum-told .given .1), c .before .before .before .before .if1 .left)
+
+enum-known-fault : tie.Need-enum-known-fault
+enum-known-fault c = search needs
+
+refusal-requires : tie.Need-refusal-requires
+refusal-requires c κs = search needs
+
+same-length : tie.Need-same-length
+same-length c = search needs
+
+returns-2 : tie.Need-returns-2
+returns-2 c =
+    let at-ran = c .before .before in
+    let at-told = at-ran .before .before in
+    let at-check = at-told .before .before in
+    when-legal _ (at-check .before .if1 .left) (sym (at-check .check .ensures) ∙ ap checkNumbered (at-told .enum-told .given .1)) (at-ran .ran .ensures)
+
+same-length-2 : tie.Need-same-length-2
+same-length-2 c = search needs
+
+returns-3 : tie.Need-returns-3
+returns-3 c =
+    let at-refusal = c .before .before in
+    let at-fault = at-refusal .before .before .before in
+    let at-check = at-fault .before .before in
+    when-refused (at-check .before .before .before .before .args .script .now) (at-fault .fault .given .0 .0) (at-check .before .if1 .left) (sym (at-check .check .ensures) ∙ ap checkNumbered (at-fault .fault .given .1)) (at-refusal .refusal .ensures)
+
+pub listing-spec : {M : Type 1} → statement M
+listing-spec =
+    tie.close
+    (tie.spec
+    returns
+    check-requires
+    enum-told
+    ran-requires
+    enum-known-fault
+    refusal-requires
+    same-length
+    returns-2
+    same-length-2
+    returns-3)

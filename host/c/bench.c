@@ -1,24 +1,16 @@
 /* The median time of 1,000 runs of a script of 2,048 records: a time setting and time reads, over and over. */
 #include "../clock_script.h"
+#include "record.h"
 #include <stdio.h>
 #include <stdlib.h>
 #include <string.h>
 #include <time.h>
 
-enum { RECORD = 16, MOST = 2048, RUNS = 1000 };
+enum { RUNS = 1000 };
 
 static uint8_t script[RECORD * MOST];
 static uint8_t answers[MOST];
 static double times[RUNS];
-
-static void put(size_t i, uint64_t at, uint8_t kind, uint8_t value) {
-    uint8_t *record = script + RECORD * i;
-    memset(record, 0, RECORD);
-    for (int k = 0; k < 8; k++)
-        record[k] = (uint8_t)(at >> (8 * k));
-    record[8] = kind;
-    record[9] = value;
-}
 
 static int below(const void *a, const void *b) {
     double x = *(const double *)a, y = *(const double *)b;
@@ -30,7 +22,7 @@ int main(void) {
     static const uint8_t kinds[16] = {0, 1, 1, 1, 1, 3, 0, 1, 0, 2, 2, 2, 2, 2, 2, 3};
     static const uint8_t values[16] = {0xD0, 0x00, 0x56, 0x34, 0x12, 0, 0xD0, 0x00, 0xD1, 1, 1, 1, 1, 1, 0, 0};
     for (size_t i = 0; i < MOST; i++)
-        put(i, 1000000 * i, kinds[i % 16], values[i % 16]);
+        put(script, i, 1000000 * i, kinds[i % 16], values[i % 16]);
     for (int r = 0; r < RUNS; r++) {
         struct timespec from, to;
         clock_gettime(CLOCK_MONOTONIC, &from);

@@ -1,9 +1,9 @@
 /* Tests of the two calls from C. Prints how many passed; exits 1 where one failed. */
 #include "../clock_script.h"
+#include "record.h"
 #include <stdio.h>
 #include <string.h>
 
-enum { RECORD = 16, MOST = 2048 };
 enum { START, WRITE, READ, STOP };
 
 static int passed, failed;
@@ -15,15 +15,6 @@ static void expect(const char *what, uint32_t got, uint32_t wanted) {
     }
     failed++;
     printf("%s: %u:%u, wanted %u:%u\n", what, got >> 16, got & 0xFFFF, wanted >> 16, wanted & 0xFFFF);
-}
-
-static void put(uint8_t *script, size_t i, uint64_t at, uint8_t kind, uint8_t value) {
-    uint8_t *record = script + RECORD * i;
-    memset(record, 0, RECORD);
-    for (int k = 0; k < 8; k++)
-        record[k] = (uint8_t)(at >> (8 * k));
-    record[8] = kind;
-    record[9] = value;
 }
 
 static uint32_t refusal(uint32_t number, uint32_t record) { return number * 65536 + record; }

@@ -18,12 +18,12 @@ use Rattle.script.specs.Records.{Legal, FirstFault, recordFault, records
 -- ---- answers
 
 -- a refusal is no acceptance
-not-both : {A : Type 0} (n : ℕ) (values : List ℤ) (x : A) → refused n values ≡ accepted x → ⊥
-not-both n values x e = let z : _≡_ {A = ℕ} 0 1 = cc in omega arith
+pub never : {A : Type 0} {n : ℕ} {values : List ℤ} → _≡_ {A = Numbered (Unit {0})} (refused n values) (accepted tt) → A
+never e = let z : _≡_ {A = ℕ} 0 1 = cc in absurd (omega (arith, z))
 
 both-accepted : (v w : Numbered (Unit {0})) → andThen v w ≡ accepted (tt {0}) → (v ≡ accepted (tt {0})) × (w ≡ accepted (tt {0}))
 both-accepted (accepted u) w e = (refl, e)
-both-accepted (refused n values) w e = absurd (not-both n values (tt {0}) e)
+both-accepted (refused n values) w e = never e
 
 -- a choice between an answer and a refusal
 module _ (b : Bool) (v : Numbered (Unit {0})) (n : ℕ) (values : List ℤ) where
@@ -32,7 +32,7 @@ module _ (b : Bool) (v : Numbered (Unit {0})) (n : ℕ) (values : List ℤ) wher
     where
       by : (t : Bool) → b ≡ t → (if t then v else refused n values) ≡ accepted (tt {0}) → (b ≡ true) × (v ≡ accepted (tt {0}))
       by true p q = (p, q)
-      by false p q = absurd (not-both n values (tt {0}) q)
+      by false p q = never q
 
   refused-either : (m : ℕ) (others : List ℤ) → (if b then v else refused n values) ≡ refused m others → ((b ≡ true) × (v ≡ refused m others)) ⊎ ((b ≡ false) × (n ≡ m) × (values ≡ others))
   refused-either m others e = by b refl e
@@ -52,7 +52,7 @@ unfolding checkedLength
 accepted-length n e = by (ltb 32768 n) refl e
   where
     by : (t : Bool) → ltb 32768 n ≡ t → (if t then refused 14 [] else if eqb (n % 16) 0 then accepted (tt {0}) else refused 13 []) ≡ accepted (tt {0}) → ShortWhole n
-    by true p q = absurd (not-both 14 [] (tt {0}) q)
+    by true p q = never q
     by false p q = record { short = ltb-false 32768 n p; whole = eqb-true (n % 16) 0 (accepted-first (eqb (n % 16) 0) (accepted tt) 13 [] q .0) }
 
 length-accepted : (n : ℕ) → n ≤ 32768 → n % 16 ≡ 0 → checkedLength n ≡ accepted (tt {0})
@@ -103,7 +103,7 @@ module _ (s : List ℕ) where
 
   first-from : (a n number i : ℕ) → checkedFrom s a n ≡ refused number (pos i ∷ []) → FirstFrom a n number i
   unfolding checkedFrom
-  first-from a zero number i e = absurd (not-both number (pos i ∷ []) (tt {0}) (sym e))
+  first-from a zero number i e = never (sym e)
   first-from a (suc n) number i e =
       ⊎-elim (λ t. after-first a n number i (t .0) (first-from (a + 1) n number i (t .1))) (λ t. at-first a n number i (t .0) (t .1) (cc (t .2)))
       (refused-either (eqb (recordFault s a) 0) (checkedFrom s (a + 1) n) (recordFault s a) (pos a ∷ []) number (pos i ∷ []) e)

@@ -1,6 +1,7 @@
--- Laws of the run's definitions: there is an answer for each record, and it is that record's; and the numbered answer of a run loses nothing.
+-- Laws of the run's definitions: there is an answer for each record, and it is that record's; no event of a run is refused; and the numbered answer of a run loses nothing.
 -- Assumes nothing.
 use Prim.Native.Nat.{ℕ, zero, suc, _+_, _<_}
+use mathlib.Core.Bool.{true}
 use mathlib.Core.List.{List, [], _∷_}
 use mathlib.Core.Logic.{⊎-elim}
 use mathlib.Core.Path.{_≡_, refl, sym, ap, _∙_}
@@ -9,10 +10,15 @@ use native.Mathlib.Omega.{arith}
 use lib.Dec.{eqb}
 use lib.ListN.{length, getD, length-append, List·getD-append}
 use lib.Seq.{getD-append-add}
-use Rattle.refusals.specs.Numbered.{Numbered, accepted, refused}
+use Rattle.refusals.specs.Numbered.{Numbered, accepted, refused, unless}
 use Rattle.computed.specs.Choice.{if_then_else_}
 use Rattle.computed.proofs.Lossless.{lossless}
-use Rattle.script.specs.Runs.{Held, answersTo, answerAt, runNumbered, recordOf}
+use Rattle.diagnostics.specs.declared.I2cDiagnostic.{I2cDiagnostic}
+use Rattle.diagnostics.proofs.Counts.{stored-all-length}
+use Rattle.ds3231.specs.Calls.{sound, Event, step, bus, verdict, storeBy, storeAfter}
+use Rattle.ds3231.specs.declared.Ds3231.{Ds3231}
+use Rattle.ds3231.proofs.Sounds.{sound-kept}
+use Rattle.script.specs.Runs.{eventOf, Held, heldAt, answersTo, answerAt, runNumbered, recordOf}
 use Rattle.script.specs.declared.ScriptFault.{ScriptFault}
 use Rattle.script.specs.declared.ScriptFault.the-variants.{TooLong, NotWhole, Kind, Value, Padding, Falling}
 use Rattle.script.specs.declared.runs.RunAnswer.{RunAnswer}
@@ -38,6 +44,26 @@ module _ (s : List ℕ) (h : Held) where
       ⊎-elim (last n i)
       (λ k. List·getD-append (answersTo s h n) (answerAt s h n ∷ []) 0 i (omega (arith, answers-length n)) ∙ answers-at n i k)
       (eq-or-lt-of-le (le-of-suc-le-suc l))
+
+-- a bus call keeps the store's length
+store-kept : (e : Event) (c : Ds3231) (st : List I2cDiagnostic) → length (storeAfter (bus st e) c) ≡ length st
+store-kept e c st = by (verdict (bus st e) c)
+  where
+    by : (v : Numbered (Unit {0})) → length (unless v (storeBy (bus st e) c) st) ≡ length st
+    by (accepted u) = stored-all-length (step e c .reports) (c .diagnostics) st
+    by (refused n vs) = refl
+
+-- a chip that is sound with a store of 256 records: after every record it is, and the event of the next is not refused
+module _ (s : List ℕ) (h : Held) (ok : sound (h .chip) ≡ true) (whole : length (h .store) ≡ 256) where
+  stays : (i : ℕ) → (sound (heldAt s h i .chip) ≡ true) × (length (heldAt s h i .store) ≡ 256)
+  unfolding heldAt
+  stays zero = (ok, whole)
+  stays (suc i) =
+      let k = stays i in
+      (sound-kept (bus (heldAt s h i .store) (eventOf s i)) (heldAt s h i .chip) (k .0), store-kept (eventOf s i) (heldAt s h i .chip) (heldAt s h i .store) ∙ k .1)
+
+  pub none-refused : (i : ℕ) → verdict (bus (heldAt s h i .store) (eventOf s i)) (heldAt s h i .chip) ≡ accepted tt
+  none-refused i = rw (stays i .0, stays i .1)
 
 -- the answer that a number stands for
 abbrev runOf : Numbered (Unit {0}) → RunAnswer

@@ -28,21 +28,18 @@ use Rattle.script.specs.declared.ScriptFault.the-variants.{TooLong, NotW
 use Rattle.script.specs.declared.runs.RunAnswer.{RunAnswer}
 use Rattle.script.specs.declared.runs.RunAnswer.the-variants.{Done, NotSound, StoreLength, AnswersLength, Script}
 use Rattle.script.specs.declared.runs.RunOutcome.{RunOutcome}
+use Rattle.script.proofs.Laws.{never}
 
 -- ---- the checks in their order
 
 pub run-is : (s : List ℕ) (room : ℕ) → checkedRun s room ≡ andThen (checkedLength (length s)) (checkedRoom s room)
-unfolding checkedRun checkedRoom
+unfolding checkedRun
 run-is s room = refl
 
 pub verdict-is : (c : Ds3231) (st : List I2cDiagnostic) (len : ℕ) (s : List ℕ) (room : ℕ) → length st ≡ len → runVerdict (record { chip = c; store = st }) s room ≡ verdictOn c len s room
-unfolding runVerdict verdictOn
-verdict-is c st len s room e = rw e
+verdict-is c st len s room e = ap (λ (n : ℕ). verdictOn c n s room) e
 
 -- ---- a verdict that accepts
-
-never : {A : Type 0} {n : ℕ} {vs : List ℤ} → _≡_ {A = Numbered (Unit {0})} (refused n vs) (accepted tt) → A
-never e = let z : _≡_ {A = ℕ} 0 1 = cc in absurd (omega (arith, z))
 
 accepted-room : (s : List ℕ) (room : ℕ) → checkedRoom s room ≡ accepted tt → room ≡ recordsIn s
 unfolding checkedRoom
@@ -140,7 +137,7 @@ powers-on r p = p .chip ∙ ap poweredChip on
 
 -- neither its chip nor its store is refused
 not-refused : (s : List ℕ) (room : ℕ) → runVerdict clockrunHeld s room ≡ checkedRun s room
-unfolding runVerdict
+unfolding verdictOn
 not-refused s room = ap (λ (b : Bool). if not b then refused 10 [] else checkedRun s room) (power-on-sound clockrunConfig (chipOn clockrunConfig) on)
 
 pub runs-from : (s a : List ℕ) (c : Ds3231) (rs : List I2cDiagnostic) → c ≡ chipOn clockrunConfig → rs ≡ clockrunHeld .store → (r : RunOutcome) (a′ : List ℕ)

@@ -35,7 +35,8 @@ eventBy kind value at =
 abbrev pub eventOf : List ℕ → ℕ → Event
 eventOf s i = eventBy (kindOf s i) (valueOf s i) (instantOf s i)
 
--- the byte of an answer: START and WRITE 1 or 0, READ the byte, STOP 0
+-- the byte of an answer: START and WRITE 1 or 0, READ the byte, STOP 0. No record takes, and no event of a run is refused
+-- (`none-refused` in proofs/RunLaws.antt): the 0 that stands for those is left free
 abbrev pub replyByte : Reply → ℕ
 replyByte (acknowledge b) = if b then 1 else 0
 replyByte (byte b) = b
@@ -80,16 +81,23 @@ runNumbered StoreLength = refused 11 []
 runNumbered AnswersLength = refused 15 []
 runNumbered (Script f) = faultNumbered f
 
--- 14, 13, 15, then the records: of a script and how many answer bytes are lent
-unfoldable pub checkedRun : List ℕ → ℕ → Numbered (Unit {0})
-checkedRun s room = andThen (checkedLength (length s)) (if eqb room (recordsIn s) then checkedRecords s else refused 15 [])
+-- 15, then the records: of a script and how many answer bytes are lent
+unfoldable pub checkedRoom : List ℕ → ℕ → Numbered (Unit {0})
+checkedRoom s room = if eqb room (recordsIn s) then checkedRecords s else refused 15 []
 
--- 10, 11, then those
-unfoldable pub runVerdict : Held → List ℕ → ℕ → Numbered (Unit {0})
-runVerdict h s room =
-    if not (sound (h .chip)) then refused 10 []
-    else if not (eqb (length (h .store)) 256) then refused 11 []
+-- 14, 13, then those
+unfoldable pub checkedRun : List ℕ → ℕ → Numbered (Unit {0})
+checkedRun s room = andThen (checkedLength (length s)) (checkedRoom s room)
+
+-- 10, 11, by the chip and the store's length, then those
+unfoldable pub verdictOn : Ds3231 → ℕ → List ℕ → ℕ → Numbered (Unit {0})
+verdictOn c len s room =
+    if not (sound c) then refused 10 []
+    else if not (eqb len 256) then refused 11 []
     else checkedRun s room
+
+abbrev pub runVerdict : Held → List ℕ → ℕ → Numbered (Unit {0})
+runVerdict h s room = verdictOn (h .chip) (length (h .store)) s room
 
 -- a run on a chip and a store: its answer, the chip, the store and the answer bytes after it
 pub record Ran (h : Held) (s : List ℕ) (a : List ℕ) (r : RunAnswer) (c′ : Ds3231) (st′ : List I2cDiagnostic) (a′ : List ℕ) : Type 0 where
@@ -137,17 +145,6 @@ hostNumber (accepted u) = 0
 hostNumber (refused n vs) = n * 65536 + recordOf vs
 
 -- ---- the private functions
-
--- the verdict by the chip and the store's length
-unfoldable pub verdictOn : Ds3231 → ℕ → List ℕ → ℕ → Numbered (Unit {0})
-verdictOn c len s room =
-    if not (sound c) then refused 10 []
-    else if not (eqb len 256) then refused 11 []
-    else checkedRun s room
-
--- 15, then the records
-unfoldable pub checkedRoom : List ℕ → ℕ → Numbered (Unit {0})
-checkedRoom s room = if eqb room (recordsIn s) then checkedRecords s else refused 15 []
 
 -- every record's event in turn: the answer, the chip, the records and the answer bytes after them
 pub record RanThrough (h : Held) (s : List ℕ) (r : RunOutcome) (a′ : List ℕ) : Type 0 where

@@ -1,7 +1,7 @@
 -- The run of a legal script goes through, and the listing of one that is refused is the refusal's line.
 -- Assumes nothing.
 use Prim.Native.Nat.{ℕ, _≤_}
-use mathlib.Core.List.{List}
+use mathlib.Core.List.{List, []}
 use mathlib.Core.Path.{_≡_, refl, sym, _∙_}
 use native.Mathlib.Omega.{arith}
 use lib.ListN.{length, take, replicate}
@@ -11,13 +11,12 @@ use Rattle.refusals.specs.Numbered.{accepted}
 use Rattle.refusals.proofs.Checks.{accepted-leaves}
 use Rattle.script.specs.Answers.{faultNumbered}
 use Rattle.script.specs.Records.{recordsIn, checkedScript}
-use Rattle.script.specs.Runs.{heldAt, answersTo, clockrunHeld, checkedRun, RanFrom}
+use Rattle.script.specs.Runs.{heldAt, answersTo, clockrunHeld, checkedRoom, checkedRun, RanFrom}
 use Rattle.script.specs.declared.runs.RunOutcome.{RunOutcome}
 use Rattle.script.specs.declared.ScriptFault.{ScriptFault}
 use Rattle.script.specs.declared.ScriptFault.the-variants.{TooLong, NotWhole, Kind, Value, Padding, Falling}
 use Rattle.script.proofs.Laws.{accepted-legal}
 use Rattle.script_listing.specs.Listing.{listingBy}
-use Rattle.script_listing.specs.Refusal.{refusedText}
 
 -- a legal script has at most 2,048 records
 pub at-most : (s : List ℕ) → checkedScript s ≡ accepted tt → recordsIn s ≤ 2048
@@ -28,7 +27,7 @@ pub part-length : (s : List ℕ) → checkedScript s ≡ accepted tt → length 
 part-length s e = length-take-le (recordsIn s) (replicate 2048 0) (at-most s e)
 
 run-accepted : (s : List ℕ) (room : ℕ) → checkedScript s ≡ accepted tt → room ≡ recordsIn s → checkedRun s room ≡ accepted tt
-unfolding checkedRun
+unfolding checkedRun checkedRoom
 run-accepted s room e l = rw (eq-eqb room (recordsIn s) l) e
 
 -- what a run that goes through leaves
@@ -46,8 +45,8 @@ leaves {s} {a} {r} {a′} e l t =
       bytes = t .bytes ∙ sym (accepted-leaves _ tt _ _ g);
     }
 
--- by the fault
-pub fault-listed : (f : ScriptFault) (s : List ℕ) → refusedText (faultNumbered f) ≡ listingBy (faultNumbered f) s
+-- the text of a refusal is the same whatever the script
+pub fault-listed : (f : ScriptFault) (s : List ℕ) → listingBy (faultNumbered f) [] ≡ listingBy (faultNumbered f) s
 fault-listed TooLong s = refl
 fault-listed NotWhole s = refl
 fault-listed (Kind i) s = refl

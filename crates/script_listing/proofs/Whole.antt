@@ -1,7 +1,7 @@
 -- The whole text of a script that ran, from its parts, where there is room for every line.
 -- Assumes nothing.
 use Prim.Native.Nat.{ℕ, _+_, _*_, _≤_, _<_, min}
-use mathlib.Core.List.{List}
+use mathlib.Core.List.{List, []}
 use mathlib.Core.Path.{_≡_, sym, ap, _∙_, subst}
 use native.Mathlib.Nat.{min-le-right}
 use native.Mathlib.Omega.{arith}
@@ -18,7 +18,6 @@ use Rattle.script.specs.Answers.{faultNumbered}
 use Rattle.script.specs.declared.ScriptFault.{ScriptFault}
 use Rattle.script.specs.declared.runs.RunOutcome.{RunOutcome}
 use Rattle.script_listing.specs.Listing.{eventLines, ranListing, listingBy, listingOf}
-use Rattle.script_listing.specs.Refusal.{refusedText}
 use Rattle.script_listing.proofs.Events.{events-length}
 use Rattle.script_listing.proofs.Legal.{at-most, Left, fault-listed}
 
@@ -61,5 +60,5 @@ module _ (s : List ℕ) {out out′ : List ℕ} {r : ℕ} where
   pub when-legal : 110688 ≤ length out → checkedScript s ≡ accepted tt → Appended (ranListing s) out 0 out′ r → AppendedIn 110688 (listingOf s) out 0 out′ r
   when-legal h e a = roomy h (subst (λ (t : List ℕ). Appended t out 0 out′ r) (sym (ap (λ (v : Numbered (Unit {0})). listingBy v s) e)) a)
 
-  pub when-refused : (f : ScriptFault) → 110688 ≤ length out → checkedScript s ≡ faultNumbered f → Appended (refusedText (faultNumbered f)) out 0 out′ r → AppendedIn 110688 (listingOf s) out 0 out′ r
+  pub when-refused : (f : ScriptFault) → 110688 ≤ length out → checkedScript s ≡ faultNumbered f → Appended (listingBy (faultNumbered f) []) out 0 out′ r → AppendedIn 110688 (listingOf s) out 0 out′ r
   when-refused f h e a = roomy h (subst (λ (t : List ℕ). Appended t out 0 out′ r) (fault-listed f s ∙ sym (ap (λ (v : Numbered (Unit {0})). listingBy v s) e)) a)

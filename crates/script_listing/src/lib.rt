@@ -1,4 +1,5 @@
 // What `clockrun` prints for a script, whole, made in a lent slice of bytes.
+ghost use mathlib.Core.List.{[]};
 ghost use mathlib.Core.Path.{_≡_};
 ghost use Prim.Native.Nat.{_+_, _*_, _≤_, min};
 ghost use lib.ListN.{length};
@@ -8,8 +9,7 @@ ghost use Rattle.listing.specs.Appended.{Appended, AppendedIn};
 ghost use Rattle.script.specs.Answers.{faultNumbered};
 ghost use Rattle.script.specs.Records.{recordsIn, checkedScript};
 ghost use Rattle.script.specs.Runs.{answersTo, clockrunHeld};
-ghost use Rattle.script_listing.specs.Listing.{eventLines, ranListing, listingOf};
-ghost use Rattle.script_listing.specs.Refusal.{refusedText};
+ghost use Rattle.script_listing.specs.Listing.{eventLines, ranListing, listingBy, listingOf};
 use listing::diagnostic_lines;
 use listing::dropped_line;
 use listing::event_line;
@@ -41,7 +41,7 @@ pub fn listing(script: &[u8], out: &mut [u8]) -> usize
 // The line of a script that is refused.
 fn refusal(fault: ScriptFault, out: &mut [u8]) -> usize
     requires { ⌜ 110688 ≤ length (now out) ⌝ }
-    ensures { λ r. ⌜ Appended (refusedText (faultNumbered fault)) (now (out .entry)) 0 (now (out .exit)) r ⌝ }
+    ensures { λ r. ⌜ Appended (listingBy (faultNumbered fault) []) (now (out .entry)) 0 (now (out .exit)) r ⌝ }
 {
     match fault {
         ScriptFault::TooLong => refused_line(out, 0, 14, false, 0),

@@ -16,9 +16,10 @@ use Rattle.diagnostics.specs.declared.Diagnostics.{Diagnostics}
 use Rattle.diagnostics.specs.declared.I2cDiagnostic.{I2cDiagnostic}
 use Rattle.ds3231.specs.Calls.{sound, checkedChip, Event, Reply, step, stepChip, bus, verdict}
 use Rattle.ds3231.specs.declared.Ds3231.{Ds3231}
-use Rattle.ds3231_step.specs.Answers.{reportsOf, eventNumbered, SteppedBy}
-use Rattle.ds3231_step.specs.declared.Report.{Report}
-use Rattle.ds3231_step.specs.declared.Report.the-variants.{None, One}
+use Rattle.ds3231_parts.specs.Answers.{reportsOf}
+use Rattle.ds3231_step.specs.Answers.{eventNumbered, SteppedBy}
+use Rattle.ds3231_parts.specs.declared.Report.{Report}
+use Rattle.ds3231_parts.specs.declared.Report.the-variants.{None, One}
 use Rattle.ds3231_step.specs.declared.Stepped.{Stepped}
 use Rattle.ds3231_bus.specs.Answers.{busNumbered, Called, OutcomeOn, Refuses, Stores, Unwritten}
 use Rattle.ds3231_bus.specs.declared.BusAnswer.{BusAnswer}

@@ -1,6 +1,5 @@
 -- What a call answers on a sound chip and on one that is not, from what the soundness test answered.
 -- Assumes nothing.
-use Prim.Native.Nat.{_≤_}
 use mathlib.Core.Bool.{Bool, true, false, not}
 use mathlib.Core.List.{[]}
 use mathlib.Core.Path.{_≡_, sym, ap, _∙_}
@@ -12,12 +11,12 @@ use Rattle.ds3231.specs.Calls.{sound, checkedChip, Event, step, stepChip}
 use Rattle.ds3231.specs.declared.Ds3231.{Ds3231}
 use Rattle.ds3231.specs.declared.Timing.{Timing}
 use Rattle.ds3231.specs.declared.Registers.{Registers}
-use Rattle.ds3231.proofs.Facts.{sound-fact}
-use Rattle.ds3231_step.specs.Answers.{reportsOf, eventNumbered, SteppedBy}
+use Rattle.ds3231_parts.specs.Answers.{reportsOf}
+use Rattle.ds3231_step.specs.Answers.{eventNumbered, SteppedBy}
 use Rattle.ds3231_step.specs.declared.EventAnswer.{EventAnswer}
 use Rattle.ds3231_step.specs.declared.EventAnswer.the-variants.{NotSound}
-use Rattle.ds3231_step.specs.declared.Report.{Report}
-use Rattle.ds3231_step.specs.declared.Report.the-variants.{None}
+use Rattle.ds3231_parts.specs.declared.Report.{Report}
+use Rattle.ds3231_parts.specs.declared.Report.the-variants.{None}
 use Rattle.ds3231_step.specs.declared.Stepped.{Stepped}
 
 module _ (c : Ds3231) (b : Bool) (e : b ≡ sound c) where
@@ -29,10 +28,6 @@ module _ (c : Ds3231) (b : Bool) (e : b ≡ sound c) where
 
   pub checked-no : not b ≡ true → checkedChip c ≡ refused 10 []
   checked-no n = ap (λ (x : Bool). if x then accepted tt else refused 10 []) (sym e ∙ not-true b n)
-
--- a pending time of a sound chip has a weekday
-pub pending-weekday : (c : Ds3231) → sound c ≡ true → c .timing .«is_pending» ≡ true → 1 ≤ c .timing .pending .weekday
-pending-weekday c s p = sound-fact c s .timing .pending p .week-from
 
 -- an event that is refused
 pub refused-step : (e : Event) (c : Ds3231) (r : Stepped) → checkedChip c ≡ refused 10 [] → r ≡ record { chip = c; answer = NotSound; report = None } → SteppedBy e c r

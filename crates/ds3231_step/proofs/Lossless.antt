@@ -1,7 +1,7 @@
 -- The numbered answers of the calls by value lose nothing: each answer can be read back.
 -- Assumes nothing.
 use Prim.Native.Nat.{ℕ}
-use mathlib.Core.List.{List, [], _∷_}
+use mathlib.Core.List.{[], _∷_}
 use mathlib.Core.Path.{_≡_, refl}
 use lib.Dec.{eqb}
 use lib.IntN.{pos}
@@ -13,17 +13,14 @@ use Rattle.calendar.proofs.Lossless.{errorOf}
 use Rattle.calendar.specs.declared.DateTime.{DateTime}
 use Rattle.calendar.specs.declared.DateTimeError.{DateTimeError}
 use Rattle.calendar.specs.declared.DateTimeError.the-variants.{Year, Month, Day, Hour, Minute, Second}
-use Rattle.diagnostics.specs.declared.I2cDiagnostic.{I2cDiagnostic}
 use Rattle.ds3231.specs.Calls.{Reply, acknowledge, byte, done, copied}
 use Rattle.ds3231.specs.declared.Ds3231.{Ds3231}
-use Rattle.ds3231_step.specs.Answers.{poweredAnswer, nowNumbered, registerNumbered, droppedNumbered, reportsOf, eventNumbered}
+use Rattle.ds3231_step.specs.Answers.{poweredAnswer, nowNumbered, registerNumbered, droppedNumbered, eventNumbered}
 use Rattle.ds3231_step.specs.declared.PowerOnAnswer.{PowerOnAnswer}
 use Rattle.ds3231_step.specs.declared.PowerOnAnswer.the-variants.{On, Start, Temperature}
 use Rattle.ds3231_step.specs.declared.NowResult as NowResult
 use Rattle.ds3231_step.specs.declared.RegisterResult as RegisterResult
 use Rattle.ds3231_step.specs.declared.DroppedResult as DroppedResult
-use Rattle.ds3231_step.specs.declared.Report.{Report}
-use Rattle.ds3231_step.specs.declared.Report.the-variants.{None, One}
 use Rattle.ds3231_step.specs.declared.EventAnswer as EventAnswer
 
 -- power-on
@@ -83,18 +80,6 @@ dropped-back DroppedResult.the-variants.NotSound = refl
 
 pub dropped-lossless : (p q : DroppedResult.DroppedResult) → droppedNumbered p ≡ droppedNumbered q → p ≡ q
 dropped-lossless = lossless droppedNumbered droppedOf dropped-back
-
--- the reports of an event
-abbrev reportOf : List I2cDiagnostic → Report
-reportOf [] = None
-reportOf (d ∷ ds) = One d
-
-report-back : (r : Report) → reportOf (reportsOf r) ≡ r
-report-back None = refl
-report-back (One d) = refl
-
-pub report-lossless : (p q : Report) → reportsOf p ≡ reportsOf q → p ≡ q
-report-lossless = lossless reportsOf reportOf report-back
 
 -- the answer of an event
 abbrev eventOfReply : Reply → EventAnswer.EventAnswer

@@ -2,7 +2,7 @@
 -- Assumes nothing.
 use Prim.Native.Nat.{ℕ}
 use mathlib.Core.Bool.{false}
-use mathlib.Core.List.{List, [], _∷_}
+use mathlib.Core.List.{[], _∷_}
 use mathlib.Core.Path.{_≡_}
 use lib.IntN.{pos}
 use lib.ListN.{replicate}
@@ -10,13 +10,11 @@ use Rattle.refusals.specs.Numbered.{Numbered, accepted, refused, andThen, unles
 use Rattle.calendar.specs.Answers.{refusedBy}
 use Rattle.calendar.specs.Stated.{dateTime}
 use Rattle.calendar.specs.declared.DateTime.{DateTime}
-use Rattle.diagnostics.specs.declared.I2cDiagnostic.{I2cDiagnostic}
 use Rattle.ds3231.specs.Calls.{noPending, powerOn, checkedChip, Event, Reply, acknowledge, byte, done, step, stepChip}
 use Rattle.ds3231.specs.declared.Ds3231.{Ds3231}
 use Rattle.ds3231.specs.declared.Ds3231Config.{Ds3231Config}
 use Rattle.ds3231.specs.declared.Phase.the-variants.{Released}
-use Rattle.ds3231_step.specs.declared.Report.{Report}
-use Rattle.ds3231_step.specs.declared.Report.the-variants.{None, One}
+use Rattle.ds3231_parts.specs.Answers.{reportsOf}
 use Rattle.ds3231_step.specs.declared.PowerOnAnswer.{PowerOnAnswer}
 use Rattle.ds3231_step.specs.declared.PowerOnAnswer.the-variants.{On, Start, Temperature}
 use Rattle.ds3231_step.specs.declared.PowerOn.{PowerOn}
@@ -81,11 +79,6 @@ droppedNumbered (DroppedResult.the-variants.Ok n) = accepted n
 droppedNumbered DroppedResult.the-variants.NotSound = refused 10 []
 
 -- ---- the events
-
--- the reports of an event
-abbrev pub reportsOf : Report → List I2cDiagnostic
-reportsOf None = []
-reportsOf (One d) = d ∷ []
 
 abbrev pub eventNumbered : EventAnswer.EventAnswer → Numbered Reply
 eventNumbered (EventAnswer.the-variants.Acknowledge b) = accepted (acknowledge b)

@@ -1,19 +1,17 @@
 // The calls that ask: `now`, `register` and the dropped count.
-ghost use mathlib.Core.Bool.{true};
 ghost use mathlib.Core.Path.{_≡_};
-ghost use Prim.Native.Nat.{_≤_};
-ghost use Rattle.ds3231.specs.Calls.{sound, nowAnswer, registerByte, registerAnswer, droppedAnswer};
+ghost use Rattle.ds3231.specs.Calls.{nowAnswer, registerByte, registerAnswer, droppedAnswer};
 ghost use Rattle.ds3231_step.specs.Answers.{nowNumbered, registerNumbered, droppedNumbered};
 use crate::DroppedResult;
 use crate::NowResult;
 use crate::RegisterResult;
-use crate::clock;
-use crate::registers;
-use crate::registers::LAST_REGISTER;
-use crate::registers::YEAR;
 use crate::sound::is_sound;
-use crate::timing;
 use ds3231::Ds3231;
+use ds3231_parts::clock;
+use ds3231_parts::registers;
+use ds3231_parts::registers::LAST_REGISTER;
+use ds3231_parts::registers::YEAR;
+use ds3231_parts::timing;
 
 // The time at `at`.
 pub fn now(chip: Ds3231, at: u64) -> NowResult
@@ -41,7 +39,6 @@ pub fn register(chip: Ds3231, register: u8, at: u64) -> RegisterResult
 }
 
 fn register_byte(chip: Ds3231, register: u8, at: u64) -> u8
-    requires { ⌜ (sound chip ≡ true) × (register ≤ 0x12) ⌝ }
     ensures { λ r. ⌜ r ≡ registerByte chip register at ⌝ }
 {
     if register <= YEAR {

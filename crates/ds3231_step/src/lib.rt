@@ -1,19 +1,15 @@
 // The DS3231 by value: power-on, `now`, `register`, the dropped count, soundness, and the four events with no store.
-// Modules: `clock`, `timing` and `registers` have the Rust's functions on the parts of the chip, `reports` what is
-// reported, `sound` the soundness test, and `power`, `ask` and `events` the public calls.
+// Modules: `sound` has the soundness test, and `power`, `ask` and `events` the public calls. Each call tests the chip
+// and puts together what the functions of `ds3231_parts` make of its parts.
 use calendar::DateTime;
 use calendar::DateTimeError;
-use diagnostics::I2cDiagnostic;
 use ds3231::Ds3231;
+use ds3231_parts::Report;
 
 mod ask;
-mod clock;
 mod events;
 mod power;
-mod registers;
-mod reports;
 mod sound;
-mod timing;
 
 pub use ask::dropped_diagnostics;
 pub use ask::now;
@@ -55,12 +51,6 @@ pub enum RegisterResult {
 pub enum DroppedResult {
     Ok(u64),
     NotSound,
-}
-
-// What an event reports: at most one record.
-pub enum Report {
-    None,
-    One(I2cDiagnostic),
 }
 
 // What an event answers: START and WRITE an acknowledge, READ a byte.

@@ -6,12 +6,7 @@ ghost use Rattle.ds3231.specs.Calls.{noPending, timingOn, registersOn, chipOn};
 ghost use Rattle.ds3231_step.specs.Answers.{noChip, PoweredOn};
 use crate::PowerOn;
 use crate::PowerOnAnswer;
-use crate::clock;
-use crate::clock::SECONDS_PER_DAY;
-use crate::registers::EN32KHZ;
-use crate::registers::OSF;
 use crate::sound::in_quarters;
-use crate::timing;
 use calendar::DateTime;
 use calendar::Validity;
 use calendar::weekday_of_day;
@@ -24,6 +19,11 @@ use ds3231::Phase;
 use ds3231::Registers;
 use ds3231::SecondsAt;
 use ds3231::Timing;
+use ds3231_parts::clock;
+use ds3231_parts::clock::SECONDS_PER_DAY;
+use ds3231_parts::registers::EN32KHZ;
+use ds3231_parts::registers::OSF;
+use ds3231_parts::timing;
 
 const CONTROL_POWER_ON: u8 = 0x1C;
 

@@ -1,15 +1,15 @@
 // Soundness, part by part.
 ghost use mathlib.Core.Path.{_≡_};
 ghost use Rattle.ds3231.specs.Calls.{soundTime, soundPending, soundTiming, inQuarters, soundRegisters, sound};
-use crate::clock::SECONDS_IN_RANGE;
-use crate::registers::CONV;
-use crate::registers::LAST_REGISTER;
 use calendar::DateTime;
 use diagnostics::MAX_DIAGNOSTICS;
 use ds3231::Ds3231;
 use ds3231::PendingTime;
 use ds3231::Registers;
 use ds3231::Timing;
+use ds3231_parts::clock::SECONDS_IN_RANGE;
+use ds3231_parts::registers::CONV;
+use ds3231_parts::registers::LAST_REGISTER;
 
 // The status bits that the chip keeps: OSF, EN32kHz, A2F and A1F.
 const STATUS_BITS: u8 = 0x8B;

@@ -1,7 +1,7 @@
 -- `ds3231_step::events::address` meets its contract.
 -- Assumes nothing.
 use mathlib.Core.Path.{refl}
-use Rattle.ds3231_step.proofs.EventLaws.{is-sound, checked-yes, checked-no, pending-weekday, refused-step, done-step}
+use Rattle.ds3231_step.proofs.EventLaws.{checked-yes, checked-no, refused-step, done-step}
 use borrow.Author.Needs.{needs}
 use Rattle.ds3231_step.proofs.events.address.Statement.{statement}
 use Rattle.ds3231_step.proofs.events.address.Tie as tie
@@ -19,7 +19,7 @@ commit-report-requires : tie.Need-commit-report-requires
 commit-report-requires c κs = search needs
 
 address-requires : tie.Need-address-requires
-address-requires c κs = pending-weekday _ (is-sound _ _ (c .before .before .before .is-sound .ensures) (c .before .before .if1 .left))
+address-requires c κs = search needs
 
 stepped-requires : tie.Need-stepped-requires
 stepped-requires c κs = search needs

@@ -1,8 +1,10 @@
 -- `ds3231_step::events::read` meets its contract.
 -- Assumes nothing.
-use mathlib.Core.Path.{refl, ap}
+use mathlib.Core.Path.{refl, ap, _∙_}
 use Rattle.refusals.specs.Numbered.{accepted}
-use Rattle.ds3231_step.proofs.EventLaws.{is-sound, checked-yes, checked-no, refused-step, done-step}
+use Rattle.ds3231.specs.Calls.{byte}
+use Rattle.ds3231_parts.proofs.AnswerLaws.{read-reply}
+use Rattle.ds3231_step.proofs.EventLaws.{checked-yes, checked-no, refused-step, done-step}
 use borrow.Author.Needs.{needs}
 use Rattle.ds3231_step.proofs.events.read.Statement.{statement}
 use Rattle.ds3231_step.proofs.events.read.Tie as tie
@@ -17,7 +19,7 @@ returns : tie.Need-returns
 returns c = refused-step _ _ _ (checked-no _ _ (c .before .before .is-sound .ensures) (c .before .if1 .taken)) (c .not-sound .ensures)
 
 read-byte-requires : tie.Need-read-byte-requires
-read-byte-requires c κs = is-sound _ _ (c .before .before .before .is-sound .ensures) (c .before .before .if1 .left)
+read-byte-requires c κs = search needs
 
 read-requires : tie.Need-read-requires
 read-requires c κs = search needs
@@ -27,9 +29,10 @@ stepped-requires c κs = search needs
 
 returns-2 : tie.Need-returns-2
 returns-2 c =
-    let b = c .before .before .before .before .before in
+    let b = c .before .before .before .before .before .before in
+    let a = b .before .before .args in
     done-step _ _ _ _ _ _ _ (checked-yes _ _ (b .before .is-sound .ensures) (b .if1 .left)) (c .stepped .ensures)
-    (c .before .read .ensures) refl (ap accepted (c .before .before .read-byte .ensures)) refl
+    (c .before .read .ensures) refl (ap accepted (ap byte (c .before .before .read-byte .ensures) ∙ read-reply (a .chip .timing .phase) (a .at) (a .chip))) refl
 
 pub read-spec : {M : Type 1} → statement M
 read-spec =

@@ -1,7 +1,6 @@
 -- `ds3231_step::power::timing_on` meets its contract.
 -- Assumes nothing.
-use native.Mathlib.Omega.{arith}
-use Rattle.calendar.proofs.Laws.{nearest-same, weekday-formula}
+use Rattle.calendar.proofs.Laws.{nearest-same}
 use borrow.Author.Needs.{needs}
 use Rattle.ds3231_step.proofs.power.timing_on.Statement.{statement}
 use Rattle.ds3231_step.proofs.power.timing_on.Tie as tie
@@ -10,7 +9,7 @@ start-weekday-requires : tie.Need-start-weekday-requires
 start-weekday-requires c κs = search needs
 
 set-requires : tie.Need-set-requires
-set-requires c κs = omega (arith, c .start-weekday .ensures, weekday-formula (c .before .before .args .config .start))
+set-requires c κs = search needs
 
 no-pending-requires : tie.Need-no-pending-requires
 no-pending-requires c κs = search needs

@@ -1,0 +1,5 @@
+pub mod AnswerLaws
+pub mod ClockLaws
+pub mod Lossless
+pub mod RegisterLaws
+pub mod TimingLaws

@@ -1,5 +1,7 @@
 // The lent calls on values, for programs: each function lends the chip and the store that it is passed to the call, and
 // gives back what the call left in them.
+// To read it: each contract is that of the call in `ds3231_bus`, on the values before and after. The structs hold what is
+// lent and what comes back.
 ghost use Rattle.ds3231.specs.Calls.{START, WRITE, READ, STOP};
 ghost use Rattle.diagnostics.specs.Reports.{report as reportOf};
 ghost use Rattle.diagnostics.specs.Lent.{ReportedTo};

@@ -1,4 +1,7 @@
 // Dates and times of the years 2000 to 2199, their seconds since 2000-01-01T00:00:00, and weekdays.
+// To read it: the contracts cite `gregorian`'s definitions at a `DateTime` (`specs/Dates.antt`) and number each answer as
+// document 01 does (`specs/Answers.antt`). `specs/Stated.antt` is what the crates above may name, and `proofs/Laws.antt` the
+// laws that they go by.
 ghost use mathlib.Core.Path.{_≡_};
 ghost use Prim.Native.Nat.{_+_, _-_, _%_, _<_, _≤_};
 ghost use Rattle.refusals.specs.Numbered.{accepted, andThen};

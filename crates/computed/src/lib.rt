@@ -1,1 +1,3 @@
-// The choice by a test, for definitions; and proofs for the crates above: claims that a computed test decides, and choices.
+// The choice by a test, for definitions, and proofs that several crates share; no function.
+// To read it: `specs/Choice.antt` has `if_then_else_`; `proofs/Claim.antt` decides a claim about numbers by a computed test,
+// for tables; `proofs/Choice.antt` has choices, `proofs/Lossless.antt` that what can be read back is not lost.

@@ -1,4 +1,6 @@
 // What a chip on the bus reports: the kinds, the record, the lent store of 256 records and its counts.
+// To read it: `specs/Reports.antt` has what a report does to the store and the counts, and document 01's word, register and
+// byte of each kind; `specs/Lent.antt` has what `report` promises of the counts and the store that it is lent.
 ghost use mathlib.Core.Bool.{false};
 ghost use mathlib.Core.Path.{_≡_};
 ghost use Rattle.diagnostics.specs.Reports.{counted, report as reportOf};

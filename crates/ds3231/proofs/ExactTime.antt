@@ -8,9 +8,9 @@ use native.Mathlib.Nat.{le-trans}
 use native.Mathlib.Omega.{arith}
 use borrow.Author.Tests.{le-leb}
 use lib.Dec.{leb, eqb}
-use lib.IntN.{ℤ}
 use lib.ListN.{length, getD}
 use Rattle.refusals.specs.Numbered.{Numbered, accepted, refused, andThen, unless}
+use Rattle.refusals.proofs.Checks.{never}
 use Rattle.computed.specs.Choice.{if_then_else_}
 use Rattle.calendar.specs.Stated.{InRange, checked, timeOf}
 use Rattle.calendar.proofs.Laws.{accepted-in-range, seconds-of-time, weekday-formula}
@@ -194,14 +194,11 @@ pub record On (f : Ds3231Config) (c₀ : Ds3231) : Type 0 where
   pub quarters : inQuarters (f .«temperature_quarters») ≡ true
   pub is : chipOn f ≡ c₀
 
-clash : {A : Type 0} (n : ℕ) (vs : List ℤ) (a : A) → refused n vs ≡ accepted a → ⊥
-clash n vs a e = let z : _≡_ {A = ℕ} 0 1 = cc in omega arith
-
 power-by : (f : Ds3231Config) (c₀ : Ds3231) (v : Numbered (Unit {0})) (b : Bool) → checked (f .start) ≡ v → inQuarters (f .«temperature_quarters») ≡ b
     → andThen v (andThen (if b then accepted tt else refused 7 (f .«temperature_quarters» ∷ [])) (accepted (chipOn f))) ≡ accepted c₀ → On f c₀
-power-by f c₀ (refused n vs) b e q h = absurd (clash n vs c₀ h)
+power-by f c₀ (refused n vs) b e q h = never h
 power-by f c₀ (accepted u) true e q h = record { in-range = accepted-in-range (f .start) e; quarters = q; is = cc }
-power-by f c₀ (accepted u) false e q h = absurd (clash 7 (f .«temperature_quarters» ∷ []) c₀ h)
+power-by f c₀ (accepted u) false e q h = never h
 
 pub on-by : (f : Ds3231Config) (c₀ : Ds3231) → powerOn f ≡ accepted c₀ → On f c₀
 unfolding checkedQuarters

@@ -118,6 +118,11 @@ offset-same d w h =
     let c = each offsets 0 49 tt k (omega arith) (omega arith) in
     offset-steps 6 0 d w ∙ ap₂ (λ (x y : ℕ). offsetFrom 6 0 x y) (sym p) (sym q) ∙ c ∙ ap₂ (λ (x y : ℕ). (y - 1 + 7 - x % 7) % 7) p q ∙ ap (λ (x : ℕ). (w - 1 + 7 - x) % 7) (twice d)
 
+-- with its offset the day has the weekday
+pub offset-gives : (d w : ℕ) → InWeek w → (d + offsetFor w d) % 7 + 1 ≡ w
+unfolding offsetFor
+offset-gives d w h = omega arith
+
 -- ---- the accepted bytes and the pending time
 
 -- the pending time that accepted bytes make on a clock

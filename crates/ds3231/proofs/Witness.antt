@@ -23,7 +23,7 @@ use Rattle.ds3231.specs.Numbers.{nanos, range, day}
 use Rattle.ds3231.specs.Calls.{inQuarters, checkedQuarters, chipOn, powerOn, Event, START, WRITE, READ, STOP, byte, Call, bus, verdict, answer}
 use Rattle.ds3231.specs.Model.{reads, Model, exact, dateWith, clamped, offsetWith, modelOn}
 use Rattle.ds3231.specs.Clock.{offsetFor}
-use Rattle.ds3231.proofs.Follows.{offset-same}
+use Rattle.ds3231.proofs.Follows.{offset-same, offset-gives}
 use Rattle.ds3231.specs.Exact.{events, fullyLent, modelAfter, ReadsTime, chip, model}
 use Rattle.ds3231.specs.declared.Ds3231Config.{Ds3231Config}
 use Rattle.ds3231.proofs.Counting.{whole-count}
@@ -203,8 +203,7 @@ unfolding set-time
 date-set t = ap (λ (b : Bool). dateTime (2000 + (if b then 100 else 0) + 24) 2 28 12 34 56) (le-leb 2100 (2000 + 100 + t .year % 100) (omega arith))
 
 weekday-set : (days n : ℕ) → n ≡ days → (n + offsetWith days 3) % 7 + 1 ≡ 3
-unfolding offsetFor
-weekday-set days n e = ap₂ (λ (x y : ℕ). (x + y) % 7 + 1) e (offset-same days 3 (omega arith)) ∙ omega arith
+weekday-set days n e = ap₂ (λ (x y : ℕ). (x + y) % 7 + 1) e (offset-same days 3 (omega arith)) ∙ offset-gives days 3 (omega arith)
 
 -- the bytes that are latched once they are set, from any model with no transaction under way
 abbrev atRest : Model → Model

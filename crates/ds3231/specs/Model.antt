@@ -1,4 +1,4 @@
--- Document 01's model of the exact time. It is fed the kind, instant, address, read bit and byte of each bus call that is not refused, and no answers. It shares with the chip's side `meaning`, `timeBytes` and the calendar, and nothing else.
+-- Document 01's model of the exact time. It is fed the kind, instant, address, read bit and byte of each bus call that is not refused, and no answers. It shares with the chip's side `meaning`, `timeBytes`, the calendar, the numbers of `Numbers`, the events and the configuration, and nothing else.
 -- Assumes nothing.
 use Prim.Native.Nat.{ℕ, zero, suc, _+_, _*_, _-_, _/_, _%_}
 use mathlib.Core.Bool.{Bool, false}
@@ -86,7 +86,7 @@ abbrev pub weekdayBy : List Accepted → ℕ → ℕ
 weekdayBy [] w = w
 weekdayBy (a ∷ l) w = weekdayBy l (weekdayWith (meaning (a .register) (a .value)) w)
 
--- the offset, 0 to 6, with which the day has the weekday: the first of o, o + 1, .. that gives it, of which k are left to try
+-- the offset, 0 to 6, with which the day has the weekday: the first of o, o + 1, .. that gives it, of which k are left to try before the last, which is given untested
 abbrev pub offsetFrom : ℕ → ℕ → ℕ → ℕ → ℕ
 offsetFrom zero o days w = o
 offsetFrom (suc k) o days w = if eqb ((days + o) % 7 + 1) w then o else offsetFrom k (o + 1) days w

@@ -1,5 +1,7 @@
-// The DS3231 real-time clock: its structs. What its calls mean, document 01's model and the theorem of the exact time are
-// definitions and proofs: read specs/Clock, Timing, Registers, Calls, then Model and Exact.
+// The DS3231 real-time clock: its structs. What its calls mean, document 01's model, the exact time and the report total are
+// definitions and theorems; no function.
+// To read it: of specs/ `Clock`, `Timing`, `Registers`, `Calls`, then `Model`, `Exact` and `Total`; docs/EXACT-TIME.md says the
+// theorem in plain words. Its proof is `proofs/ExactTime.antt`, and `proofs/Witness.antt` shows that it is not empty.
 use calendar::DateTime;
 use diagnostics::Diagnostics;
 

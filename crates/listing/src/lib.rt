@@ -1,4 +1,6 @@
-// The text that `clockrun` prints, made in a lent slice of bytes.
+// The text that `clockrun` prints, line by line, appended to a lent slice of bytes.
+// To read it: `specs/Text.antt` has each line, byte by byte, and `specs/Appended.antt` what appending leaves in the slice. The
+// module `blocks` has the parts of a line: words, digits and commas.
 mod blocks;
 
 ghost use Prim.Native.Nat.{_+_, _*_, _≤_, min};
@@ -65,17 +67,7 @@ fn event(out: &mut [u8], at: usize, instant: u64, kind: u8, value: u8, answer: u
     byte(out, next, b'\n')
 }
 
-// The line of a report.
-pub fn diagnostic_line(out: &mut [u8], at: usize, diagnostic: I2cDiagnostic) -> usize
-    ensures { λ r. ⌜ Lined (diagnosticLine diagnostic) (now (out .entry)) at (now (out .exit)) r ⌝ }
-{
-    if !has_room(out.len(), at, LINE) {
-        return at;
-    }
-    report(out, at, diagnostic)
-}
-
-// The same, where there is room for it.
+// The line of a report, where there is room for it.
 fn report(out: &mut [u8], at: usize, diagnostic: I2cDiagnostic) -> usize
     requires { ⌜ at + 48 ≤ length (now out) ⌝ }
     ensures { λ r. ⌜ Appended (diagnosticLine diagnostic) (now (out .entry)) at (now (out .exit)) r ⌝ }

@@ -4,6 +4,7 @@ use Prim.Native.Nat.{ℕ}
 use mathlib.Core.List.{List}
 use mathlib.Core.Path.{_≡_, sym, ap}
 use lib.IntN.{ℤ}
+use native.Mathlib.Omega.{arith}
 use Rattle.refusals.specs.Numbered.{Numbered, accepted, refused, andThen, unless}
 
 module _ (v : Numbered (Unit {0})) where
@@ -18,3 +19,7 @@ module _ (v : Numbered (Unit {0})) where
 
   pub refused-leaves : {A : Type 0} (number : ℕ) (values : List ℤ) (after before : A) → v ≡ refused number values → before ≡ unless v after before
   refused-leaves number values after before e = ap (λ (w : Numbered (Unit {0})). unless w after before) (sym e)
+
+-- no answer is both refused and accepted
+pub never : {A B : Type 0} {a : A} {n : ℕ} {values : List ℤ} → _≡_ {A = Numbered A} (refused n values) (accepted a) → B
+never e = let z : _≡_ {A = ℕ} 0 1 = cc in absurd (omega (arith, z))

@@ -1,4 +1,5 @@
 // Re-runs recorded scripts (vectors/README.md has their form) and prints the listing of each.
+// To read it: `replay` is the loop, `turn` one script.
 ghost use mathlib.Core.Path.{_≡_};
 ghost use Prim.Native.Nat.{_<_, _≤_};
 ghost use lib.ListN.{length};

@@ -12,14 +12,11 @@ use lib.IntN.{ℤ, pos}
 use lib.ListN.{length}
 use borrow.Author.Tests.{ltb-false, le-ltb, eqb-true, eqb-false, eq-eqb}
 use Rattle.refusals.specs.Numbered.{Numbered, accepted, refused, andThen}
+use Rattle.refusals.proofs.Checks.{never}
 use Rattle.computed.specs.Choice.{if_then_else_}
 use Rattle.script.specs.Records.{Legal, FirstFault, recordFault, recordsIn, checkedLength, checkedFrom, checkedRecords, checkedScript}
 
 -- ---- answers
-
--- a refusal is no acceptance
-pub never : {A : Type 0} {n : ℕ} {values : List ℤ} → _≡_ {A = Numbered (Unit {0})} (refused n values) (accepted tt) → A
-never e = let z : _≡_ {A = ℕ} 0 1 = cc in absurd (omega (arith, z))
 
 both-accepted : (v w : Numbered (Unit {0})) → andThen v w ≡ accepted (tt {0}) → (v ≡ accepted (tt {0})) × (w ≡ accepted (tt {0}))
 both-accepted (accepted u) w e = (refl, e)

@@ -10,7 +10,7 @@ use lib.IntN.{ℤ, pos}
 use lib.ListN.{length}
 use borrow.Author.Tests.{eqb-true, eq-eqb}
 use Rattle.refusals.specs.Numbered.{Numbered, accepted, refused, andThen, unless}
-use Rattle.refusals.proofs.Checks.{accepted-leaves}
+use Rattle.refusals.proofs.Checks.{never, accepted-leaves}
 use Rattle.computed.specs.Choice.{if_then_else_}
 use Rattle.calendar.specs.Stated.{InRange, dateTime}
 use Rattle.calendar.proofs.Laws.{in-range-accepted, month-bounds}
@@ -28,7 +28,6 @@ use Rattle.script.specs.declared.ScriptFault.the-variants.{TooLong, NotW
 use Rattle.script.specs.declared.runs.RunAnswer.{RunAnswer}
 use Rattle.script.specs.declared.runs.RunAnswer.the-variants.{Done, NotSound, StoreLength, AnswersLength, Script}
 use Rattle.script.specs.declared.runs.RunOutcome.{RunOutcome}
-use Rattle.script.proofs.Laws.{never}
 
 -- ---- the checks in their order
 

@@ -1,4 +1,5 @@
 // What `clockrun` prints for a script, whole, made in a lent slice of bytes.
+// To read it: `specs/Listing.antt` has the listing of a script, or the line of its refusal; the lines are `listing`'s.
 ghost use mathlib.Core.List.{[]};
 ghost use mathlib.Core.Path.{_≡_};
 ghost use Prim.Native.Nat.{_+_, _*_, _≤_, min};

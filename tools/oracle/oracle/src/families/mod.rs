@@ -1,7 +1,7 @@
 //! The families of inputs, by name. An item of a family depends on the seed, the family's name and
 //! the item's number alone.
 
-mod bus;
+pub mod bus;
 mod damaged;
 mod dates;
 mod lists;

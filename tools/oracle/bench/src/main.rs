@@ -45,7 +45,8 @@ fn count(side: &str, kind: &str, times: usize) {
 }
 
 fn table() {
-    println!("| what | records | this library, ns | the Rust, ns | library / Rust |");
+    println!("Millions of events or conversions a second; a ratio of 1 or more is not slower than the Rust.\n");
+    println!("| what | number | this library | the Rust | library / Rust |");
     println!("|---|---|---|---|---|");
     for (name, make) in KINDS {
         for records in LENGTHS {
@@ -103,15 +104,15 @@ fn conversions() {
     row("seconds_since_2000; the Rust with no check", CONVERSIONS, total(library), total(plain));
 }
 
-/// Times both sides in turn and prints the medians for one of `size` items.
+/// Times both sides in turn on `size` items and prints how many millions each does in a second, by the medians.
 fn row<A>(name: &str, size: usize, mut library: impl FnMut() -> A, mut rust: impl FnMut() -> A) {
     let (mut ours, mut theirs) = (Vec::new(), Vec::new());
     for _ in 0..ROUNDS {
         ours.push(round(size, &mut library));
         theirs.push(round(size, &mut rust));
     }
-    let (ours, theirs) = (median(ours), median(theirs));
-    println!("| {name} | {size} | {ours:.2} | {theirs:.2} | {:.2} |", ours / theirs);
+    let (ours, theirs) = (1e3 / median(ours), 1e3 / median(theirs));
+    println!("| {name} | {size} | {ours:.1} | {theirs:.1} | {:.2} |", ours / theirs);
 }
 
 /// The nanoseconds for one item, over a round.

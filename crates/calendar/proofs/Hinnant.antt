@@ -1,16 +1,18 @@
 -- The code's formulas give the calendar's numbers, and find the parts of a date again.
 -- Assumes nothing.
+use mathlib.Core.Logic.{_⊎_, inl, inr}
 use mathlib.Core.Path.{_≡_, ap, _∙_}
 use Prim.Native.Nat.{ℕ, _+_, _-_, _*_, _/_, _%_, _≤_, _<_}
 use native.Mathlib.Omega.{arith}
 use Rattle.gregorian.specs.Calendar.{leap, daysOfYears, dayNumber}
+use Rattle.gregorian.specs.Times.{ValidDate}
 use Rattle.gregorian.proofs.Months.{bit}
 use Rattle.calendar.specs.Formula.{marchMonth}
 use Rattle.calendar.proofs.Formula.{start, startInEra, yearOfEra, dayOfYear, monthOf, dayOf}
 use Rattle.calendar.proofs.Months.{early-month, late-month}
 use Rattle.calendar.proofs.Years.{year-is}
 
--- the day number of a date, by the formula: January and February belong to the March year before
+-- the day number of a date of January or February, which belong to the March year before, and of one of the other months
 pub early-number : (y m d : ℕ) → 2000 ≤ y → y ≤ 2199 → 1 ≤ m → m ≤ 2 → 1 ≤ d →
     dayNumber y m d + 730425 ≡ start (y - 1) + marchMonth (m + 9) + (d - 1)
 unfolding dayNumber
@@ -26,6 +28,24 @@ late-number y m d p q a b h =
     let f : y - 1 + 1 ≡ y = omega arith in
     let k = year-is (y - 1) (omega arith) (omega arith) in
     omega (arith, k .0, ap daysOfYears e, k .1 .0, ap start f, ap (λ (z : ℕ). bit (leap z)) f, late-month y m a b .0)
+
+-- b is how many years before its own year the March year of the month m starts
+abbrev pub Before : ℕ → ℕ → Type 0
+Before m b = ((m ≤ 2) × (b ≡ 1)) ⊎ ((2 < m) × (b ≡ 0))
+
+pub before-bounds : (m b : ℕ) → 1 ≤ m → m ≤ 12 → Before m b → (b ≤ 1) × (3 ≤ m + 12 * b) × (m + 12 * b ≤ 14)
+before-bounds m b p q (inl w) = omega arith
+before-bounds m b p q (inr w) = omega arith
+
+-- the day number of any date, by the formula
+pub number : (y m d b : ℕ) → ValidDate y m d → Before m b →
+    dayNumber y m d + 730425 ≡ start (y - b) + marchMonth (m + 12 * b - 3) + (d - 1)
+number y m d b v (inl w) =
+    let e : y - b ≡ y - 1 = omega arith in
+    omega (arith, early-number y m d (v .year-from) (v .year-to) (v .month-from) (w .0) (v .day-from), ap start e)
+number y m d b v (inr w) =
+    let e : y - b ≡ y = omega arith in
+    omega (arith, late-number y m d (v .year-from) (v .year-to) (w .0) (v .month-to) (v .day-from), ap start e)
 
 -- the year of the era grows with the day
 grows₁ : (a b : ℕ) → a ≤ b → a - a / 1460 ≤ b - b / 1460

@@ -4,6 +4,8 @@
 // laws that they go by.
 ghost use mathlib.Core.Path.{_≡_};
 ghost use Prim.Native.Nat.{_+_, _-_, _%_, _<_, _≤_};
+ghost use mathlib.Core.Logic.{_⊎_};
+ghost use lib.Dec.{ltb};
 ghost use Rattle.refusals.specs.Numbered.{accepted, andThen};
 ghost use Rattle.gregorian.specs.Calendar.{leap, monthLength, dayNumber, dateOfDay};
 ghost use Rattle.gregorian.specs.Times.{ValidDate, nearestIn, checkedSeconds};
@@ -117,7 +119,7 @@ impl DateTime {
         if self.month < 1 || self.month > 12 {
             return Validity::Invalid(DateTimeError::Month(self.month));
         }
-        if self.day == 0 || self.day > days_in_month(self.year, self.month) {
+        if self.day == 0 || is_past_month(self.year, self.month, self.day) {
             return Validity::Invalid(DateTimeError::Day {
                 year: self.year,
                 month: self.month,
@@ -269,19 +271,34 @@ pub fn days_in_month(year: u16, month: u8) -> u8
     }
 }
 
+// Whether a day is past the last of its month. No month ends before its 28th.
+fn is_past_month(year: u16, month: u8, day: u8) -> bool
+    ensures { λ r. ⌜ r ≡ ltb (monthLength year month) day ⌝ }
+{
+    if day <= 28 {
+        return false;
+    }
+    day > days_in_month(year, month)
+}
+
 // The days from 2000-01-01 to a date in the range, on a year that starts in March so that the leap day ends it.
 fn days_since_2000(year: u16, month: u8, day: u8) -> u64
     requires { ⌜ ValidDate year month day ⌝ }
     ensures { λ r. ⌜ r ≡ dayNumber year month day ⌝ }
 {
-    let year = year as u64;
-    let month = month as u64;
-    let day = day as u64;
-    if month <= 2 {
-        march_days(year - 1, month + 9, day)
-    } else {
-        march_days(year, month - 3, day)
-    }
+    let before = years_before(month);
+    march_days(
+        year as u64 - before,
+        month as u64 + 12 * before - 3,
+        day as u64,
+    )
+}
+
+// How many years before its own year the March year of a month starts: 1 for January and February.
+fn years_before(month: u8) -> u64
+    ensures { λ r. ⌜ ((month ≤ 2) × (r ≡ 1)) ⊎ ((2 < month) × (r ≡ 0)) ⌝ }
+{
+    if month <= 2 { 1 } else { 0 }
 }
 
 // The days from 2000-01-01 to a day of a month, 0 for March to 11 for February, of a year that starts in March.

@@ -16,23 +16,35 @@ returns c = bad-year _ (⊎-elim (λ w. below (omega (arith, ltb-true))) (λ w. 
 returns-2 : tie.Need-returns-2
 returns-2 c = bad-month _ (omega (arith, ltb-false)) (⊎-elim (λ w. below (omega (arith, ltb-true))) (λ w. above (omega (arith, ltb-true))) (c .if3 .came)) ∙ sym (checked-is _)
 
-days-in-month-requires : tie.Need-days-in-month-requires
-days-in-month-requires c κs = search needs
+is-past-month-requires : tie.Need-is-past-month-requires
+is-past-month-requires c κs = search needs
 
 returns-3 : tie.Need-returns-3
-returns-3 c = bad-day _ (omega (arith, ltb-false)) (omega (arith, ltb-false)) (⊎-elim (λ w. below (omega (arith, ltb-true))) (λ w. above (omega (arith, ltb-true))) (c .if5 .came)) ∙ sym (checked-is _)
+returns-3 c = bad-day _ (omega (arith, ltb-false)) (omega (arith, ltb-false)) (⊎-elim (λ w. below (omega arith)) (λ w. above (ltb-true _ _ (sym (w .1 .ensures) ∙ w .2 .taken))) (c .if5 .came)) ∙ sym (checked-is _)
 
 returns-4 : tie.Need-returns-4
-returns-4 c = bad-hour _ (omega (arith, ltb-false)) (omega (arith, ltb-false)) (omega (arith, ltb-false)) (above (omega arith)) ∙ sym (checked-is _)
+returns-4 c =
+    let e = c .before .before in
+    let d = sym (e .before .is-past-month .ensures) ∙ e .if6 .left in
+    bad-hour _ (omega (arith, ltb-false)) (omega (arith, ltb-false)) (omega (arith, ltb-false)) (above (omega arith)) ∙ sym (checked-is _)
 
 returns-5 : tie.Need-returns-5
-returns-5 c = bad-minute _ (omega (arith, ltb-false)) (omega (arith, ltb-false)) (omega (arith, ltb-false)) (omega arith) (above (omega arith)) ∙ sym (checked-is _)
+returns-5 c =
+    let e = c .before .before .before .before in
+    let d = sym (e .before .is-past-month .ensures) ∙ e .if6 .left in
+    bad-minute _ (omega (arith, ltb-false)) (omega (arith, ltb-false)) (omega (arith, ltb-false)) (omega arith) (above (omega arith)) ∙ sym (checked-is _)
 
 returns-6 : tie.Need-returns-6
-returns-6 c = bad-second _ (omega (arith, ltb-false)) (omega (arith, ltb-false)) (omega (arith, ltb-false)) (omega arith) (omega arith) (above (omega arith)) ∙ sym (checked-is _)
+returns-6 c =
+    let e = c .before .before .before .before .before .before in
+    let d = sym (e .before .is-past-month .ensures) ∙ e .if6 .left in
+    bad-second _ (omega (arith, ltb-false)) (omega (arith, ltb-false)) (omega (arith, ltb-false)) (omega arith) (omega arith) (above (omega arith)) ∙ sym (checked-is _)
 
 returns-7 : tie.Need-returns-7
-returns-7 c = sym (checked-is _ ∙ valid-accepted _ (omega (arith, ltb-false)))
+returns-7 c =
+    let e = c .before .before .before .before .before .before in
+    let d = sym (e .before .is-past-month .ensures) ∙ e .if6 .left in
+    sym (checked-is _ ∙ valid-accepted _ (omega (arith, ltb-false)))
 
 pub validate-spec : {M : Type 1} → statement M
-validate-spec = tie.close (tie.spec returns returns-2 days-in-month-requires returns-3 returns-4 returns-5 returns-6 returns-7)
+validate-spec = tie.close (tie.spec returns returns-2 is-past-month-requires returns-3 returns-4 returns-5 returns-6 returns-7)

@@ -30,7 +30,7 @@ const SCRIPTS: [(&str, usize); 13] = [
 ];
 
 /// How many lists of each family, those that take diagnostics apart.
-const LISTS: [(&str, usize); 14] = [
+const LISTS: [(&str, usize); 15] = [
     ("transactions", 4),
     ("setting", 6),
     ("hours", 1),
@@ -45,6 +45,7 @@ const LISTS: [(&str, usize); 14] = [
     ("falling", 7),
     ("power", 26),
     ("inside", 2),
+    ("rounds", 2),
 ];
 
 const TAKING: [(&str, usize); 1] = [("taking", 8)];

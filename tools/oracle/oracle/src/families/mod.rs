@@ -37,8 +37,9 @@ const fn family(name: &'static str, make: Make) -> Family {
     Family { name, make }
 }
 
-const FAMILIES: [Family; 20] = [
+const FAMILIES: [Family; 21] = [
     family("transactions", Make::Events(registers::transactions)),
+    family("rounds", Make::Events(registers::rounds)),
     family("setting", Make::Events(time::setting)),
     family("hours", Make::Events(time::hours)),
     family("undefined", Make::Events(time::undefined_bytes)),

@@ -32,6 +32,18 @@ pub fn transactions(bus: &mut Bus, _index: usize) {
     }
 }
 
+/// READs that pass 0x12 while seconds pass, so that the time is latched anew in mid-transaction.
+pub fn rounds(bus: &mut Bus, index: usize) {
+    bus.set((index % 0x13) as u8, &[]);
+    bus.start(ADDRESS, true);
+    for left in (0..bus.random.within(20, 40)).rev() {
+        let pause = bus.random.below(SECOND);
+        bus.wait(pause);
+        bus.read(left > 0);
+    }
+    bus.stop();
+}
+
 /// A transaction of `count` bytes, legal ones for the time registers.
 fn write_some(bus: &mut Bus, pointer: u8, count: u64) {
     let registers = (pointer..0x13).chain(0..0x13).take(count as usize);

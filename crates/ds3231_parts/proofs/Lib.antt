@@ -1,5 +1,6 @@
 pub mod AnswerLaws
 pub mod ClockLaws
+pub mod EventLaws
 pub mod Lossless
 pub mod RegisterLaws
 pub mod TimingLaws

@@ -4,13 +4,12 @@ ghost use mathlib.Core.List.{[], _∷_};
 ghost use mathlib.Core.Path.{_≡_};
 ghost use lib.Dec.{leb};
 ghost use Rattle.computed.specs.Choice.{if_then_else_};
-ghost use Rattle.fields.specs.Table.{meaning};
 ghost use Rattle.diagnostics.specs.Reports.{report, countedAll};
 ghost use Rattle.diagnostics.specs.declared.I2cDiagnosticKind.the-variants.{NotModelled, NoSuchRegister, Undefined};
 ghost use Rattle.ds3231.specs.Registers.{enablesOutput};
-ghost use Rattle.ds3231.specs.Timing.{isDefined};
-ghost use Rattle.ds3231.specs.Calls.{commitReports, registerReports, writeReports};
+ghost use Rattle.ds3231.specs.Calls.{commitReports};
 ghost use Rattle.ds3231_parts.specs.Answers.{reportsOf};
+ghost use Rattle.ds3231_parts.specs.Events.{dayReports, registerReportsIf, writeReportsIf};
 use crate::Report;
 use crate::registers::CONTROL;
 use crate::registers::DATE;
@@ -18,6 +17,7 @@ use crate::registers::LAST_REGISTER;
 use crate::registers::TEMPERATURE_MSB;
 use crate::registers::YEAR;
 use crate::registers::enables_output;
+use calendar::DateTime;
 use calendar::days_in_month;
 use diagnostics::ChipName;
 use diagnostics::Diagnostics;
@@ -27,8 +27,6 @@ use diagnostics::one_more;
 use ds3231::Phase;
 use ds3231::Registers;
 use ds3231::Timing;
-use fields::Decoded;
-use fields::decode;
 use fields::to_bcd;
 
 // A report of the clock at an instant.
@@ -43,11 +41,11 @@ fn report(at: u64, kind: I2cDiagnosticKind) -> Report
 }
 
 // What a byte written to a register reports.
-fn register_report(registers: Registers, register: u8, byte: u8, at: u64) -> Report
-    ensures { λ r. ⌜ reportsOf r ≡ registerReports register byte at registers ⌝ }
+fn register_report(defined: bool, registers: Registers, register: u8, byte: u8, at: u64) -> Report
+    ensures { λ r. ⌜ reportsOf r ≡ registerReportsIf defined register byte at registers ⌝ }
 {
     if register <= YEAR {
-        return time_report(register, byte, at);
+        return time_report(defined, register, byte, at);
     }
     if register == CONTROL {
         return control_report(registers, byte, at);
@@ -68,21 +66,20 @@ fn control_report(registers: Registers, byte: u8, at: u64) -> Report
     Report::None
 }
 
-// A byte written to a time register is reported where it is undefined.
-fn time_report(register: u8, byte: u8, at: u64) -> Report
-    ensures { λ r. ⌜ reportsOf r ≡ (if isDefined (meaning register byte) then [] else report at (Undefined register byte) ∷ []) ⌝ }
+// A byte written to a time register is reported where it is not defined.
+fn time_report(defined: bool, register: u8, byte: u8, at: u64) -> Report
+    ensures { λ r. ⌜ reportsOf r ≡ (if defined then [] else report at (Undefined register byte) ∷ []) ⌝ }
 {
-    let decoded = decode(register, byte);
-    match decoded {
-        Decoded::Defined(_) => Report::None,
-        Decoded::Undefined => report(
-            at,
-            I2cDiagnosticKind::Undefined {
-                register,
-                value: byte,
-            },
-        ),
+    if defined {
+        return Report::None;
     }
+    report(
+        at,
+        I2cDiagnosticKind::Undefined {
+            register,
+            value: byte,
+        },
+    )
 }
 
 // A commit reports a day past the end of its month, in the digits of its register.
@@ -91,8 +88,15 @@ pub fn commit_report(timing: Timing, at: u64) -> Report
 {
     let pending = timing.pending;
     let time = pending.time;
+    day_report(timing.is_pending, time, at)
+}
+
+// The same of a time that is pending or not.
+pub fn day_report(is_pending: bool, time: DateTime, at: u64) -> Report
+    ensures { λ r. ⌜ reportsOf r ≡ dayReports «is_pending» time at ⌝ }
+{
     let last_day = days_in_month(time.year, time.month);
-    if timing.is_pending & (time.day > last_day) {
+    if is_pending & (time.day > last_day) {
         return report(
             at,
             I2cDiagnosticKind::Undefined {
@@ -105,12 +109,19 @@ pub fn commit_report(timing: Timing, at: u64) -> Report
 }
 
 // What a byte written in a phase of the transaction reports.
-pub fn write_report(phase: Phase, registers: Registers, register: u8, byte: u8, at: u64) -> Report
-    ensures { λ r. ⌜ reportsOf r ≡ writeReports phase register byte at registers ⌝ }
+pub fn write_report(
+    phase: Phase,
+    defined: bool,
+    registers: Registers,
+    register: u8,
+    byte: u8,
+    at: u64,
+) -> Report
+    ensures { λ r. ⌜ reportsOf r ≡ writeReportsIf phase defined register byte at registers ⌝ }
 {
     match phase {
         Phase::Pointer => pointer_report(byte, at),
-        Phase::Writing => register_report(registers, register, byte, at),
+        Phase::Writing => register_report(defined, registers, register, byte, at),
         Phase::Ignoring => Report::None,
         Phase::Released => Report::None,
         Phase::Reading => Report::None,

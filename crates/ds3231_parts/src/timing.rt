@@ -2,10 +2,12 @@
 ghost use mathlib.Core.Path.{_≡_};
 ghost use Prim.Native.Nat.{_+_, _≤_};
 ghost use Rattle.computed.specs.Choice.{if_then_else_};
-ghost use Rattle.fields.specs.Table.{meaning};
-ghost use Rattle.fields.specs.Answers.{fieldMeaning};
+ghost use Rattle.fields.specs.Table.{timeBytes};
+ghost use Rattle.fields.specs.Answers.{fieldMeaning, decodedMeaning};
 ghost use Rattle.ds3231.specs.declared.Phase.the-variants.{Reading};
-ghost use Rattle.ds3231.specs.Timing.{changedTime, changedWeekday, changedMode, changedSeconds, opened as openedAt, noted as notedBy, baseFor, clockFrom, shownAt, latch as latchAt, inPhase, pointed as pointedAt, commit as committed, accept, nextPointer, addressed as addressedBy, started, written, hasRead, stopped};
+ghost use Rattle.ds3231.specs.Clock.{timeAt, weekdayAt};
+ghost use Rattle.ds3231.specs.Timing.{isDefined, changedTime, changedWeekday, changedMode, opened as openedAt, baseFor, clockFrom, shownAt, latch as latchAt, inPhase, pointed as pointedAt, commit as committed, accept, nextPointer, addressed as addressedBy, started, hasRead, stopped};
+ghost use Rattle.ds3231_parts.specs.Events.{meaningIn, writtenAs, pendingAfter, setsSeconds, changedFields, fromSecondsAt};
 use crate::clock;
 use crate::registers::LAST_REGISTER;
 use crate::registers::SECONDS;
@@ -28,10 +30,17 @@ pub fn time_registers(timing: Timing, at: u64) -> [u8; 7]
     ensures { λ r. ⌜ r ≡ shownAt timing at ⌝ }
 {
     let clock = timing.clock;
+    shown(clock, timing.twelve_hour, at)
+}
+
+// The bytes that a clock shows in an hour mode.
+pub fn shown(clock: Clock, twelve_hour: bool, at: u64) -> [u8; 7]
+    ensures { λ r. ⌜ r ≡ timeBytes (timeAt clock at) (weekdayAt clock at) «twelve_hour» ⌝ }
+{
     fields::time_bytes(
         clock::now(clock, at),
         clock::weekday(clock, at),
-        timing.twelve_hour,
+        twelve_hour,
     )
 }
 
@@ -86,18 +95,63 @@ fn opened(clock: Clock, at: u64) -> PendingTime
     }
 }
 
-// The pending time with one more field.
-fn noted(field: Field, at: u64, pending: PendingTime) -> PendingTime
-    ensures { λ r. ⌜ r ≡ notedBy (fieldMeaning field) at pending ⌝ }
+// What a byte written in a phase of the transaction means for the time: only one that goes to a register can be defined.
+pub fn decoded(phase: Phase, register: u8, byte: u8) -> Decoded
+    ensures { λ r. ⌜ decodedMeaning r ≡ meaningIn phase register byte ⌝ }
+{
+    match phase {
+        Phase::Writing => fields::decode(register, byte),
+        Phase::Pointer => Decoded::Undefined,
+        Phase::Ignoring => Decoded::Undefined,
+        Phase::Released => Decoded::Undefined,
+        Phase::Reading => Decoded::Undefined,
+    }
+}
+
+pub fn is_defined(decoded: Decoded) -> bool
+    ensures { λ r. ⌜ r ≡ isDefined (decodedMeaning decoded) ⌝ }
+{
+    match decoded {
+        Decoded::Defined(_) => true,
+        Decoded::Undefined => false,
+    }
+}
+
+// The pending time after a byte: a defined one opens it where none waits, and is noted in it.
+pub fn pending_after(
+    decoded: Decoded,
+    is_pending: bool,
+    pending: PendingTime,
+    clock: Clock,
+    at: u64,
+) -> PendingTime
+    ensures { λ r. ⌜ r ≡ pendingAfter (decodedMeaning decoded) «is_pending» pending clock at ⌝ }
+{
+    let mut pending = pending;
+    if is_defined(decoded) & !is_pending {
+        pending = opened(clock, at);
+    }
+    match decoded {
+        Decoded::Defined(field) => {
+            pending = changed(field, pending);
+        }
+        Decoded::Undefined => {}
+    }
+    if is_seconds(decoded) {
+        pending = from_seconds_at(pending, at);
+    }
+    pending
+}
+
+// The pending time with a field, apart from the instant of its seconds byte.
+fn changed(field: Field, pending: PendingTime) -> PendingTime
+    ensures { λ r. ⌜ r ≡ changedFields (fieldMeaning field) pending ⌝ }
 {
     let time = pending.time;
-    let seconds_at = pending.seconds_at;
-    PendingTime {
-        time: changed_time(field, time),
-        weekday: changed_weekday(field, pending.weekday),
-        first_at: pending.first_at,
-        seconds_at: changed_seconds(field, at, seconds_at),
-    }
+    let mut pending = pending;
+    pending.time = changed_time(field, time);
+    pending.weekday = changed_weekday(field, pending.weekday);
+    pending
 }
 
 // The time with the field: a month also sets the century, a year keeps it.
@@ -172,24 +226,46 @@ fn changed_weekday(field: Field, weekday: u8) -> u8
     }
 }
 
-// The instant of the last seconds byte, which a seconds field moves.
-fn changed_seconds(field: Field, at: u64, seconds_at: SecondsAt) -> SecondsAt
-    ensures { λ r. ⌜ r ≡ changedSeconds (fieldMeaning field) at «seconds_at» ⌝ }
+// Whether a byte is defined and sets the seconds.
+fn is_seconds(decoded: Decoded) -> bool
+    ensures { λ r. ⌜ r ≡ setsSeconds (decodedMeaning decoded) ⌝ }
+{
+    match decoded {
+        Decoded::Defined(field) => is_second(field),
+        Decoded::Undefined => false,
+    }
+}
+
+fn is_second(field: Field) -> bool
+    ensures { λ r. ⌜ r ≡ setsSeconds (fieldMeaning field) ⌝ }
 {
     match field {
-        Field::Second(_) => SecondsAt::Written(at),
-        Field::Minute(_) => seconds_at,
+        Field::Second(_) => true,
+        Field::Minute(_) => false,
         Field::Hour {
             hour: _,
             twelve_hour: _,
-        } => seconds_at,
-        Field::Weekday(_) => seconds_at,
-        Field::Day(_) => seconds_at,
+        } => false,
+        Field::Weekday(_) => false,
+        Field::Day(_) => false,
         Field::Month {
             month: _,
             century: _,
-        } => seconds_at,
-        Field::Year(_) => seconds_at,
+        } => false,
+        Field::Year(_) => false,
+    }
+}
+
+// The pending time with its last seconds byte at `at`.
+fn from_seconds_at(pending: PendingTime, at: u64) -> PendingTime
+    ensures { λ r. ⌜ r ≡ fromSecondsAt at pending ⌝ }
+{
+    let time = pending.time;
+    PendingTime {
+        time,
+        weekday: pending.weekday,
+        first_at: pending.first_at,
+        seconds_at: SecondsAt::Written(at),
     }
 }
 
@@ -214,38 +290,27 @@ fn changed_mode(field: Field, twelve_hour: bool) -> bool
     }
 }
 
-// The pending time that a byte at `at` is noted in.
-fn pending_at(timing: Timing, at: u64) -> PendingTime
-    ensures { λ r. ⌜ r ≡ (if timing .«is_pending» then timing .pending else openedAt (timing .clock) at) ⌝ }
+// The hour mode after a byte.
+pub fn mode_after(decoded: Decoded, twelve_hour: bool) -> bool
+    ensures { λ r. ⌜ r ≡ changedMode (decodedMeaning decoded) «twelve_hour» ⌝ }
+{
+    match decoded {
+        Decoded::Defined(field) => changed_mode(field, twelve_hour),
+        Decoded::Undefined => twelve_hour,
+    }
+}
+
+// A byte written to a time register is noted in the pending time, which waits for the end of the transaction. An
+// undefined one changes nothing.
+fn write_time(timing: Timing, decoded: Decoded, at: u64) -> Timing
+    ensures { λ r. ⌜ r ≡ accept (decodedMeaning decoded) at timing ⌝ }
 {
     let clock = timing.clock;
     let pending = timing.pending;
-    if timing.is_pending {
-        return pending;
-    }
-    opened(clock, at)
-}
-
-// A byte written to a time register: an undefined one changes nothing.
-fn write_time(timing: Timing, register: u8, byte: u8, at: u64) -> Timing
-    ensures { λ r. ⌜ r ≡ accept (meaning register byte) at timing ⌝ }
-{
-    let decoded = fields::decode(register, byte);
-    match decoded {
-        Decoded::Defined(field) => accepted(timing, field, at),
-        Decoded::Undefined => timing,
-    }
-}
-
-// A field is noted in the pending time, which waits for the end of the transaction.
-fn accepted(timing: Timing, field: Field, at: u64) -> Timing
-    ensures { λ r. ⌜ r ≡ accept (fieldMeaning field) at timing ⌝ }
-{
-    let pending = pending_at(timing, at);
     let mut timing = timing;
-    timing.twelve_hour = changed_mode(field, timing.twelve_hour);
-    timing.is_pending = true;
-    timing.pending = noted(field, at, pending);
+    timing.pending = pending_after(decoded, timing.is_pending, pending, clock, at);
+    timing.twelve_hour = mode_after(decoded, timing.twelve_hour);
+    timing.is_pending = is_defined(decoded) | timing.is_pending;
     timing
 }
 
@@ -266,7 +331,7 @@ fn commit(timing: Timing) -> Timing
 }
 
 // The clock that a pending time sets: a day past the month's end becomes its last day.
-fn clock_from(clock: Clock, pending: PendingTime) -> Clock
+pub fn clock_from(clock: Clock, pending: PendingTime) -> Clock
     ensures { λ r. ⌜ r ≡ clockFrom clock pending ⌝ }
 {
     let time = pending.time;
@@ -286,7 +351,7 @@ fn base_for(clock: Clock, first_at: u64, seconds_at: SecondsAt) -> u64
 }
 
 // The pointer after a register: up by one, from 0x12 to 0x00.
-fn next(register: u8) -> u8
+pub fn next(register: u8) -> u8
     ensures { λ r. ⌜ r ≡ nextPointer register ⌝ }
 {
     if register >= LAST_REGISTER {
@@ -307,7 +372,7 @@ pub fn address(timing: Timing, address: u8, read: bool, at: u64) -> Timing
 }
 
 // The phase after a START: only 0x68 is addressed.
-fn addressed(address: u8, read: bool) -> Phase
+pub fn addressed(address: u8, read: bool) -> Phase
     ensures { λ r. ⌜ r ≡ addressedBy address read ⌝ }
 {
     if address != ADDRESS {
@@ -316,9 +381,9 @@ fn addressed(address: u8, read: bool) -> Phase
     if read { Phase::Reading } else { Phase::Pointer }
 }
 
-// WRITE: the pointer byte, then bytes to registers.
-pub fn write(timing: Timing, byte: u8, at: u64) -> Timing
-    ensures { λ r. ⌜ r ≡ written (timing .phase) byte at timing ⌝ }
+// WRITE: the pointer byte, then bytes to registers, by what the byte means for the time.
+pub fn write(timing: Timing, decoded: Decoded, byte: u8, at: u64) -> Timing
+    ensures { λ r. ⌜ r ≡ writtenAs (timing .phase) (decodedMeaning decoded) byte at timing ⌝ }
 {
     let phase = timing.phase;
     match phase {
@@ -331,7 +396,7 @@ pub fn write(timing: Timing, byte: u8, at: u64) -> Timing
         }
         Phase::Writing => {
             let register = timing.pointer;
-            pointed(write_time(timing, register, byte, at), next(register))
+            pointed(write_time(timing, decoded, at), next(register))
         }
         Phase::Ignoring => timing,
         Phase::Released => timing,

@@ -42,12 +42,15 @@ pub fn write(chip: Ds3231, byte: u8, at: u64) -> Stepped
     let timing = chip.timing;
     let registers = chip.registers;
     let phase = timing.phase;
-    let report = reports::write_report(phase, registers, timing.pointer, byte, at);
-    let written = registers::write(registers, phase, timing.pointer, byte, at);
+    let register = timing.pointer;
+    let decoded = timing::decoded(phase, register, byte);
+    let defined = timing::is_defined(decoded);
+    let report = reports::write_report(phase, defined, registers, register, byte, at);
+    let written = registers::write(registers, phase, register, byte, at);
     let answer = EventAnswer::Acknowledge(answers::acknowledged(phase));
     stepped(
         chip,
-        timing::write(timing, byte, at),
+        timing::write(timing, decoded, byte, at),
         written,
         answer,
         report,

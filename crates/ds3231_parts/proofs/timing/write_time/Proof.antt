@@ -1,28 +1,21 @@
--- `timing::write_time` meets its contract: by what the byte decodes to.
+-- `ds3231_parts::timing::write_time` meets its contract.
 -- Assumes nothing.
 use borrow.Author.Needs.{needs}
 use Rattle.ds3231_parts.proofs.timing.write_time.Statement.{statement}
 use Rattle.ds3231_parts.proofs.timing.write_time.Tie as tie
 
-decode-requires : tie.Need-decode-requires
-decode-requires c κs = search needs
+pending-after-requires : tie.Need-pending-after-requires
+pending-after-requires c κs = search needs
 
-enum-known-decoded : tie.Need-enum-known-decoded
-enum-known-decoded c = search needs
+mode-after-requires : tie.Need-mode-after-requires
+mode-after-requires c κs = search needs
 
-accepted-requires : tie.Need-accepted-requires
-accepted-requires c κs = search needs
-
-enum-told : tie.Need-enum-told
-enum-told c = search needs
+is-defined-requires : tie.Need-is-defined-requires
+is-defined-requires c κs = search needs
 
 returns : tie.Need-returns
-returns c = rw (c .accepted .ensures, ← (c .before .before .before .before .decode .ensures), c .before .before .decoded .given .1)
-
-returns-2 : tie.Need-returns-2
-returns-2 c = rw (← (c .before .before .decode .ensures), c .enum-told .given .1)
+returns c = rw (c .before .is-defined .ensures, c .before .before .mode-after .ensures, c .before .before .before .pending-after .ensures)
 
 pub write-time-spec : {M : Type 1} → statement M
 write-time-spec =
-    tie.close
-    (tie.spec decode-requires enum-known-decoded accepted-requires enum-told returns returns-2)
+    tie.close (tie.spec pending-after-requires mode-after-requires is-defined-requires returns)

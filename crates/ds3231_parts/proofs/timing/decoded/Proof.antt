@@ -1,11 +1,14 @@
--- `timing::changed_seconds` meets its contract: by the cases of the field.
+-- `ds3231_parts::timing::decoded` meets its contract.
 -- Assumes nothing.
 use borrow.Author.Needs.{needs}
-use Rattle.ds3231_parts.proofs.timing.changed_seconds.Statement.{statement}
-use Rattle.ds3231_parts.proofs.timing.changed_seconds.Tie as tie
+use Rattle.ds3231_parts.proofs.timing.decoded.Statement.{statement}
+use Rattle.ds3231_parts.proofs.timing.decoded.Tie as tie
 
 enum-told : tie.Need-enum-told
 enum-told c = search needs
+
+decode-requires : tie.Need-decode-requires
+decode-requires c κs = search needs
 
 enum-told-2 : tie.Need-enum-told-2
 enum-told-2 c = search needs
@@ -19,14 +22,8 @@ enum-told-4 c = search needs
 enum-told-5 : tie.Need-enum-told-5
 enum-told-5 c = search needs
 
-enum-told-6 : tie.Need-enum-told-6
-enum-told-6 c = search needs
-
-enum-told-7 : tie.Need-enum-told-7
-enum-told-7 c = search needs
-
 returns : tie.Need-returns
-returns c = rw (c .enum-told .given .1)
+returns c = rw (c .decode .ensures, c .before .enum-told .given .1)
 
 returns-2 : tie.Need-returns-2
 returns-2 c = search needs
@@ -40,27 +37,18 @@ returns-4 c = search needs
 returns-5 : tie.Need-returns-5
 returns-5 c = search needs
 
-returns-6 : tie.Need-returns-6
-returns-6 c = search needs
-
-returns-7 : tie.Need-returns-7
-returns-7 c = search needs
-
-pub changed-seconds-spec : {M : Type 1} → statement M
-changed-seconds-spec =
+pub decoded-spec : {M : Type 1} → statement M
+decoded-spec =
     tie.close
     (tie.spec
     enum-told
+    decode-requires
     enum-told-2
     enum-told-3
     enum-told-4
     enum-told-5
-    enum-told-6
-    enum-told-7
     returns
     returns-2
     returns-3
     returns-4
-    returns-5
-    returns-6
-    returns-7)
+    returns-5)

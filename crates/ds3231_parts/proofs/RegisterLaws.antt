@@ -1,4 +1,4 @@
--- The low byte of a signed number as the code reads it, what a byte written to an alarm register makes of the registers, and that one written to a register of the time or of the temperature changes nothing.
+-- The low byte of a signed number as the code reads it, what a byte written to an alarm register makes of the registers, and that one written to a register of the time or of the temperature and any event but a WRITE change nothing.
 -- Assumes nothing.
 use Prim.Native.Nat.{ℕ, suc, _-_, _%_, _≤_, _<_}
 use mathlib.Core.Bool.{true, false}
@@ -15,7 +15,11 @@ use mir.Val.{Fits, SFits, toZ, ofZ}
 use borrow.Author.Tests.{le-leb, lt-leb, ne-eqb, ltb-true, le-ltb}
 use Rattle.computed.proofs.Choice.{both-false}
 use Rattle.ds3231.specs.Registers.{lowByte, registersWritten}
+use Rattle.ds3231.specs.declared.Phase.{Phase}
 use Rattle.ds3231.specs.declared.Registers.{Registers}
+use Rattle.ds3231_parts.specs.Events.{registersAfter}
+use Rattle.ds3231_parts.specs.declared.Event.{Event}
+use Rattle.ds3231_parts.specs.declared.Event.the-variants.{Start, Write, Read, Stop}
 
 -- ---- a signed number of 16 bits
 
@@ -87,3 +91,10 @@ module _ (r b t : ℕ) (g : Registers) where
 
   pub written-above : 16 < r → g ≡ registersWritten r b t g
   written-above h = rw (both-false (leb 7 r) (leb r 13) (lt-leb r 13 (omega arith)), ne-eqb r 14 (omega arith), ne-eqb r 15 (omega arith), ne-eqb r 16 (omega arith))
+
+-- an event that is no WRITE keeps the registers
+pub other-event-keeps : (e : Event) (p : Phase) (n : ℕ) (g : Registers) (t : ℕ) → ((b : ℕ) → e ≡ Write b → ⊥) → g ≡ registersAfter e p n g t
+other-event-keeps (Start a r) p n g t w = refl
+other-event-keeps (Write b) p n g t w = absurd (w b refl)
+other-event-keeps (Read k) p n g t w = refl
+other-event-keeps Stop p n g t w = refl

@@ -73,13 +73,8 @@ pub fn registers_after(
     ensures { λ r. ⌜ r ≡ registersAfter event phase pointer registers at ⌝ }
 {
     match event {
-        Event::Start {
-            address: _,
-            read: _,
-        } => registers,
         Event::Write { byte } => registers::write(registers, phase, pointer, byte, at),
-        Event::Read { acknowledged: _ } => registers,
-        Event::Stop => registers,
+        _ => registers,
     }
 }
 

@@ -1,10 +1,10 @@
 pub mod Bytes
+pub mod Events
+pub mod Turns
 pub mod CheckVerdicts
 pub mod Laws
 pub mod Lossless
 pub mod RunLaws
-pub mod Turns
 pub mod RunVerdicts
-pub mod Events
 pub mod HostLaws
 pub mod Rows

@@ -56,15 +56,15 @@ accepted-run s room a = by (checkedLength (length s)) (sym (run-is s room) ∙ a
     by (refused n vs) e = never e
 
 -- the store has 256 records, and a byte for each record of the script is lent
-pub accepted-on : (c : Ds3231) (len : ℕ) (s : List ℕ) (room : ℕ) → verdictOn c len s room ≡ accepted tt → (len ≡ 256) × (room ≡ recordsIn s)
+pub accepted-on : (c : Ds3231) (len : ℕ) (s : List ℕ) (room : ℕ) → verdictOn c len s room ≡ accepted tt → (len ≡ 256) × (room ≡ recordsIn s) × (sound c ≡ true)
 unfolding verdictOn
-accepted-on c len s room = by (sound c) (eqb len 256) refl
+accepted-on c len s room = by (sound c) (eqb len 256) refl refl
   where
-    by : (x y : Bool) → eqb len 256 ≡ y → (if not x then refused 10 [] else if not y then refused 11 [] else checkedRun s room) ≡ accepted tt → (len ≡ 256) × (room ≡ recordsIn s)
-    by true true e a = (eqb-true len 256 e, accepted-run s room a)
-    by true false e a = never a
-    by false true e a = never a
-    by false false e a = never a
+    by : (x y : Bool) → sound c ≡ x → eqb len 256 ≡ y → (if not x then refused 10 [] else if not y then refused 11 [] else checkedRun s room) ≡ accepted tt → (len ≡ 256) × (room ≡ recordsIn s) × (sound c ≡ true)
+    by true true o e a = (eqb-true len 256 e, accepted-run s room a, o)
+    by true false o e a = never a
+    by false true o e a = never a
+    by false false o e a = never a
 
 -- ---- an answer that refuses
 

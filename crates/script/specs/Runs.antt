@@ -13,9 +13,13 @@ use Rattle.calendar.specs.Stated.{dateTime}
 use Rattle.diagnostics.specs.Reports.{report}
 use Rattle.diagnostics.specs.declared.I2cDiagnostic.{I2cDiagnostic}
 use Rattle.diagnostics.specs.declared.I2cDiagnosticKind.the-variants.{ReadOnly}
-use Rattle.ds3231.specs.Calls.{sound, chipOn, Event, START, WRITE, READ, STOP, Reply, acknowledge, byte, done, copied, bus, chipAfter, storeAfter, answer}
+use Rattle.ds3231.specs.Calls.{sound, chipOn, Event, START, WRITE, READ, STOP, Reply, acknowledge, byte, done, copied, writeReply, bus, chipAfter, storeAfter, answer}
 use Rattle.ds3231.specs.declared.Ds3231.{Ds3231}
 use Rattle.ds3231.specs.declared.Ds3231Config.{Ds3231Config}
+use Rattle.ds3231.specs.declared.Phase.{Phase}
+use Rattle.ds3231.specs.declared.Registers.{Registers}
+use Rattle.ds3231_parts.specs.Answers.{readByte}
+use Rattle.ds3231_parts.specs.declared.Event as Event
 use Rattle.script.specs.Records.{instantOf, kindOf, valueOf, recordsIn, checkedLength, checkedRecords}
 use Rattle.script.specs.Answers.{faultNumbered}
 use Rattle.script.specs.declared.runs.RunAnswer.{RunAnswer}
@@ -152,6 +156,13 @@ pub record RanThrough (h : Held) (s : List ℕ) (r : RunOutcome) (a′ : List �
   pub chip : r .chip ≡ heldAt s h (recordsIn s) .chip
   pub store : r .records ≡ heldAt s h (recordsIn s) .store
   pub bytes : a′ ≡ answersTo s h (recordsIn s)
+
+-- the answer byte to an event, from the parts of the chip that it depends on
+abbrev pub answerBy : Event.Event → Phase → ℕ → List ℕ → Registers → ℕ → ℕ
+answerBy (Event.the-variants.Start a r) p n bytes g t = replyByte (acknowledge (eqb a 0x68))
+answerBy (Event.the-variants.Write b) p n bytes g t = replyByte (writeReply p)
+answerBy (Event.the-variants.Read k) p n bytes g t = readByte p n bytes g t
+answerBy Event.the-variants.Stop p n bytes g t = 0
 
 -- how many records of a store of n are copied
 unfoldable pub wholeOf : ℕ → ℕ

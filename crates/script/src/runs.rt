@@ -2,9 +2,11 @@
 ghost use mathlib.Core.Path.{_≡_};
 ghost use Prim.Native.Nat.{_≤_, _+_, _*_};
 ghost use lib.ListN.{length};
-ghost use Rattle.ds3231_bus.specs.Answers.{busNumbered, OutcomeOn};
-ghost use Rattle.script.specs.Records.{recordsIn};
-ghost use Rattle.script.specs.Runs.{eventOf, answerByte, unwritten, runNumbered, checkedRun, verdictOn, checkedRoom, Ran, RanOn, RanFrom, RanThrough, wholeOf};
+ghost use mathlib.Core.Bool.{true};
+ghost use Rattle.ds3231.specs.Calls.{sound};
+ghost use Rattle.ds3231_parts.specs.Events.{eventAt};
+ghost use Rattle.script.specs.Records.{recordsIn, instantOf};
+ghost use Rattle.script.specs.Runs.{eventOf, answerBy, unwritten, runNumbered, checkedRun, verdictOn, checkedRoom, Ran, RanOn, RanFrom, RanThrough, wholeOf};
 use crate::CheckAnswer;
 use crate::RECORD;
 use crate::ScriptFault;
@@ -13,17 +15,26 @@ use crate::checks::check_records;
 use crate::records;
 use calendar::DateTime;
 use diagnostics::ChipName;
+use diagnostics::Diagnostics;
 use diagnostics::I2cDiagnostic;
 use diagnostics::I2cDiagnosticKind;
 use diagnostics::MAX_DIAGNOSTICS;
+use ds3231::Clock;
 use ds3231::Ds3231;
 use ds3231::Ds3231Config;
-use ds3231_bus::BusAnswer;
-use ds3231_bus::Outcome;
-use ds3231_bus::addressed;
-use ds3231_bus::has_read;
-use ds3231_bus::stopped;
-use ds3231_bus::written;
+use ds3231::PendingTime;
+use ds3231::Phase;
+use ds3231::Registers;
+use ds3231::Timing;
+use ds3231_parts::Event;
+use ds3231_parts::Report;
+use ds3231_parts::answers;
+use ds3231_parts::events;
+use ds3231_parts::events::latched_after;
+use ds3231_parts::events::report;
+use ds3231_parts::reports;
+use ds3231_parts::timing;
+use ds3231_parts::timing::ADDRESS;
 use ds3231_step::is_sound;
 use ds3231_step::power_on;
 
@@ -187,61 +198,156 @@ fn checked_room(script: &[u8], room: usize) -> RunAnswer
     }
 }
 
-// Every record's event in turn.
+// Every record's event in turn, on a sound chip. The parts of the chip are local variables, so that an event writes only
+// those that it changes.
 fn events(
-    mut chip: Ds3231,
+    chip: Ds3231,
     mut records: [I2cDiagnostic; 256],
     script: &[u8],
     answers: &mut [u8],
 ) -> RunOutcome
-    requires { ⌜ length (now answers) ≡ recordsIn (now script) ⌝ }
+    requires { ⌜ (length (now answers) ≡ recordsIn (now script)) × (sound chip ≡ true) ⌝ }
     ensures { λ r. ⌜ RanThrough (record { chip = chip; store = records }) (now (script .entry)) r (now (answers .exit)) ⌝ }
 {
+    let timing = chip.timing;
+    let mut phase = timing.phase;
+    let mut pointer = timing.pointer;
+    let mut clock = timing.clock;
+    let mut twelve_hour = timing.twelve_hour;
+    let mut latched = timing.latched;
+    let mut is_pending = timing.is_pending;
+    let mut pending = timing.pending;
+    let mut registers = chip.registers;
+    let mut counts = chip.diagnostics;
     let n = answers.len();
     let mut i = 0;
     while i < n {
-        let out = outcome(chip, script, i);
-        chip = out.chip;
-        let slot = out.slot;
-        let diagnostic = out.diagnostic;
-        if out.write {
-            records[slot] = diagnostic;
+        let event = bus_event(script, i);
+        let at = records::instant(script, i);
+        answers[i] = answer_byte(event, phase, pointer, latched, registers, at);
+        let decoded = events::decoded(event, phase, pointer);
+        let defined = timing::is_defined(decoded);
+        let report = report(
+            event,
+            phase,
+            pointer,
+            defined,
+            registers,
+            is_pending,
+            pending,
+            at,
+        );
+        clock = events::clock_after(event, is_pending, pending, clock);
+        twelve_hour = timing::mode_after(decoded, twelve_hour);
+        if defined {
+            pending = timing::pending_after(decoded, is_pending, pending, clock, at);
         }
-        let answer = out.answer;
-        answers[i] = answer_byte(answer);
+        is_pending = events::pends_after(event, defined, is_pending);
+        registers = events::registers_after(event, phase, pointer, registers, at);
+        let bytes = latched_after(event, phase, pointer, clock, twelve_hour, latched, at);
+        latched = bytes;
+        pointer = events::pointer_after(event, phase, pointer);
+        phase = events::phase_after(event, phase);
+        if let Report::One(diagnostic) = report {
+            let slot = counts.waiting;
+            if slot < MAX_DIAGNOSTICS {
+                records[slot] = diagnostic;
+            }
+        }
+        counts = reports::counted(counts, report);
         i += 1;
     }
-    RunOutcome {
-        chip,
-        answer: RunAnswer::Done,
-        records,
-    }
+    let timing = timing_of(
+        phase,
+        pointer,
+        clock,
+        twelve_hour,
+        latched,
+        is_pending,
+        pending,
+    );
+    went_through(timing, registers, counts, records)
 }
 
-// What the event of record `i` leaves.
-fn outcome(chip: Ds3231, script: &[u8], i: usize) -> Outcome
+// The event of record `i`.
+fn bus_event(script: &[u8], i: usize) -> Event
     requires { ⌜ 16 * i + 16 ≤ length (now script) ⌝ }
-    ensures { λ r. ⌜ OutcomeOn (eventOf (now (script .entry)) i) chip 256 r ⌝ }
+    ensures { λ r. ⌜ eventAt r (instantOf (now (script .entry)) i) ≡ eventOf (now (script .entry)) i ⌝ }
 {
     let value = records::value(script, i);
-    let at = records::instant(script, i);
     match records::kind(script, i) {
-        0 => addressed(chip, MAX_DIAGNOSTICS, value / 2, value % 2 == 1, at),
-        1 => written(chip, MAX_DIAGNOSTICS, value, at),
-        2 => has_read(chip, MAX_DIAGNOSTICS, value == 1, at),
-        _ => stopped(chip, MAX_DIAGNOSTICS, at),
+        0 => Event::Start {
+            address: value / 2,
+            read: value % 2 == 1,
+        },
+        1 => Event::Write { byte: value },
+        2 => Event::Read {
+            acknowledged: value == 1,
+        },
+        _ => Event::Stop,
     }
 }
 
 // START and WRITE 1 or 0, READ the byte, STOP 0.
-fn answer_byte(answer: BusAnswer) -> u8
-    ensures { λ r. ⌜ r ≡ answerByte (busNumbered answer) ⌝ }
+fn answer_byte(
+    event: Event,
+    phase: Phase,
+    pointer: u8,
+    latched: [u8; 7],
+    registers: Registers,
+    at: u64,
+) -> u8
+    ensures { λ r. ⌜ r ≡ answerBy event phase pointer latched registers at ⌝ }
 {
-    match answer {
-        BusAnswer::Acknowledge(acknowledged) => acknowledged as u8,
-        BusAnswer::Byte(byte) => byte,
-        BusAnswer::Done => 0,
-        BusAnswer::NotSound => 0,
-        BusAnswer::StoreLength => 0,
+    match event {
+        Event::Start { address, read: _ } => (address == ADDRESS) as u8,
+        Event::Write { byte: _ } => answers::acknowledged(phase) as u8,
+        Event::Read { acknowledged: _ } => {
+            answers::read_byte(phase, pointer, latched, registers, at)
+        }
+        Event::Stop => 0,
+    }
+}
+
+fn timing_of(
+    phase: Phase,
+    pointer: u8,
+    clock: Clock,
+    twelve_hour: bool,
+    latched: [u8; 7],
+    is_pending: bool,
+    pending: PendingTime,
+) -> Timing
+    ensures { λ r. ⌜ r ≡ record { phase = phase; pointer = pointer; clock = clock; «twelve_hour» = «twelve_hour»; latched = latched; «is_pending» = «is_pending»; pending = pending } ⌝ }
+{
+    Timing {
+        phase,
+        pointer,
+        clock,
+        twelve_hour,
+        latched,
+        is_pending,
+        pending,
+    }
+}
+
+// The outcome of a run that went through.
+fn went_through(
+    timing: Timing,
+    registers: Registers,
+    diagnostics: Diagnostics,
+    records: [I2cDiagnostic; 256],
+) -> RunOutcome
+    ensures { λ r. ⌜ r ≡ record { chip = record { timing = timing; registers = registers; diagnostics = diagnostics }; answer = RunAnswer.Done; records = records } ⌝ }
+{
+    let chip = Ds3231 {
+        timing,
+        registers,
+        diagnostics,
+    };
+    RunOutcome {
+        chip,
+        answer: RunAnswer::Done,
+        records,
     }
 }

@@ -1,11 +1,11 @@
 -- `ds3231_parts::events::registers_after` meets its contract.
 -- Assumes nothing.
+use mathlib.Core.Logic.{⊎-elim}
+use native.Mathlib.Omega.{arith}
+use Rattle.ds3231_parts.proofs.RegisterLaws.{other-event-keeps}
 use borrow.Author.Needs.{needs}
 use Rattle.ds3231_parts.proofs.events.registers_after.Statement.{statement}
 use Rattle.ds3231_parts.proofs.events.registers_after.Tie as tie
-
-enum-told : tie.Need-enum-told
-enum-told c = search needs
 
 enum-known-event : tie.Need-enum-known-event
 enum-known-event c = search needs
@@ -13,34 +13,14 @@ enum-known-event c = search needs
 write-requires : tie.Need-write-requires
 write-requires c κs = search needs
 
-enum-told-2 : tie.Need-enum-told-2
-enum-told-2 c = search needs
-
-enum-told-3 : tie.Need-enum-told-3
-enum-told-3 c = search needs
-
 returns : tie.Need-returns
-returns c = search needs
+returns c = rw (c .write .ensures, c .before .before .event .given .1)
 
 returns-2 : tie.Need-returns-2
-returns-2 c = rw (c .write .ensures, c .before .before .event .given .1)
-
-returns-3 : tie.Need-returns-3
-returns-3 c = search needs
-
-returns-4 : tie.Need-returns-4
-returns-4 c = search needs
+returns-2 c =
+    let a = c .before .args in
+    other-event-keeps (a .event) (a .phase) (a .pointer) (a .registers) (a .at)
+    (λ b e. ⊎-elim (λ x. omega (arith, x)) (⊎-elim (λ x. omega (arith, x)) (λ x. omega (arith, x))) (rw e at (c .match .keys2)))
 
 pub registers-after-spec : {M : Type 1} → statement M
-registers-after-spec =
-    tie.close
-    (tie.spec
-    enum-told
-    enum-known-event
-    write-requires
-    enum-told-2
-    enum-told-3
-    returns
-    returns-2
-    returns-3
-    returns-4)
+registers-after-spec = tie.close (tie.spec enum-known-event write-requires returns returns-2)

@@ -16,7 +16,10 @@ enum-told : tie.Need-enum-told
 enum-told c = search needs
 
 events-requires : tie.Need-events-requires
-events-requires c κs = let b = c .before .before .before in accepted-on _ _ _ _ (sym (b .checked .ensures) ∙ ap runNumbered (c .before .enum-told .given .1)) .1
+events-requires c κs =
+    let b = c .before .before .before in
+    let a = accepted-on _ _ _ _ (sym (b .checked .ensures) ∙ ap runNumbered (c .before .enum-told .given .1)) in
+    (a .1, a .2)
 
 same-length : tie.Need-same-length
 same-length c = search needs

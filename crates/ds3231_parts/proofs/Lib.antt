@@ -1,6 +1,4 @@
-pub mod AnswerLaws
 pub mod ClockLaws
-pub mod EventLaws
 pub mod Lossless
-pub mod RegisterLaws
 pub mod TimingLaws
+pub mod WrittenLaws

@@ -16,7 +16,7 @@ use Rattle.ds3231.specs.declared.Phase.the-variants.{Reading}
 use Rattle.ds3231.specs.declared.Clock.{Clock}
 use Rattle.ds3231.specs.declared.PendingTime.{PendingTime}
 use Rattle.ds3231.specs.declared.Timing.{Timing}
-use Rattle.ds3231_parts.specs.Events.{setsSeconds, changedFields, fromSecondsAt, pendingAfter}
+use Rattle.ds3231_parts.specs.Written.{setsSeconds, changedFields, fromSecondsAt, pendingAfter}
 
 -- a field is a defined meaning
 pub field-defined : (f : Field) → isDefined (fieldMeaning f) ≡ true

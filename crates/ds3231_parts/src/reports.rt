@@ -9,14 +9,8 @@ ghost use Rattle.diagnostics.specs.declared.I2cDiagnosticKind.the-variants.{Not
 ghost use Rattle.ds3231.specs.Registers.{enablesOutput};
 ghost use Rattle.ds3231.specs.Calls.{commitReports};
 ghost use Rattle.ds3231_parts.specs.Answers.{reportsOf};
-ghost use Rattle.ds3231_parts.specs.Events.{dayReports, registerReportsIf, writeReportsIf};
+ghost use Rattle.ds3231_parts.specs.Written.{dayReports, registerReportsIf, writeReportsIf};
 use crate::Report;
-use crate::registers::CONTROL;
-use crate::registers::DATE;
-use crate::registers::LAST_REGISTER;
-use crate::registers::TEMPERATURE_MSB;
-use crate::registers::YEAR;
-use crate::registers::enables_output;
 use calendar::DateTime;
 use calendar::days_in_month;
 use diagnostics::ChipName;
@@ -27,6 +21,12 @@ use diagnostics::one_more;
 use ds3231::Phase;
 use ds3231::Registers;
 use ds3231::Timing;
+use ds3231_registers::registers::CONTROL;
+use ds3231_registers::registers::DATE;
+use ds3231_registers::registers::LAST_REGISTER;
+use ds3231_registers::registers::TEMPERATURE_MSB;
+use ds3231_registers::registers::YEAR;
+use ds3231_registers::registers::enables_output;
 use fields::to_bcd;
 
 // A report of the clock at an instant.

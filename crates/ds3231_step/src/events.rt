@@ -11,11 +11,11 @@ use ds3231::Ds3231;
 use ds3231::Registers;
 use ds3231::Timing;
 use ds3231_parts::Report;
-use ds3231_parts::answers;
-use ds3231_parts::registers;
 use ds3231_parts::reports;
 use ds3231_parts::timing;
 use ds3231_parts::timing::ADDRESS;
+use ds3231_registers::answers;
+use ds3231_registers::registers;
 
 // START: it ends the transaction before it and latches the time, whomever it addresses.
 pub fn address(chip: Ds3231, address: u8, read: bool, at: u64) -> Stepped

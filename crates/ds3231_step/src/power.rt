@@ -21,9 +21,9 @@ use ds3231::SecondsAt;
 use ds3231::Timing;
 use ds3231_parts::clock;
 use ds3231_parts::clock::SECONDS_PER_DAY;
-use ds3231_parts::registers::EN32KHZ;
-use ds3231_parts::registers::OSF;
 use ds3231_parts::timing;
+use ds3231_registers::registers::EN32KHZ;
+use ds3231_registers::registers::OSF;
 
 const CONTROL_POWER_ON: u8 = 0x1C;
 

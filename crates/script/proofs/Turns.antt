@@ -24,10 +24,11 @@ use Rattle.ds3231.specs.declared.PendingTime.{PendingTime}
 use Rattle.ds3231.specs.declared.Phase.{Phase}
 use Rattle.ds3231.specs.declared.Registers.{Registers}
 use Rattle.ds3231.specs.declared.Timing.{Timing}
-use Rattle.ds3231_parts.specs.Events.{eventAt, meaningOf, clockAfter, isPendingAfter, pendingAfter, latchedAfter, phaseAfter, pointerAfter, registersAfter, reportsAfter}
-use Rattle.ds3231_parts.specs.declared.Event as Event
-use Rattle.ds3231_parts.proofs.AnswerLaws.{read-reply}
-use Rattle.ds3231_parts.proofs.EventLaws.{timing-by-parts, registers-by-parts, reports-by-parts}
+use Rattle.ds3231_parts.specs.Written.{pendingAfter}
+use Rattle.ds3231_events.specs.Events.{eventAt, meaningOf, clockAfter, isPendingAfter, latchedAfter, phaseAfter, pointerAfter, registersAfter, reportsAfter}
+use Rattle.ds3231_events.specs.declared.Event as Event
+use Rattle.ds3231_registers.proofs.AnswerLaws.{read-reply}
+use Rattle.ds3231_events.proofs.EventLaws.{timing-by-parts, registers-by-parts, reports-by-parts}
 use Rattle.script.specs.Records.{recordsIn}
 use Rattle.script.specs.Runs.{Held, heldAt, answersTo, answerAt, answerBy, answerByte, replyByte, eventOf, RanThrough}
 use Rattle.script.specs.declared.runs.RunAnswer.the-variants.{Done}

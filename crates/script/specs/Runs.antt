@@ -18,8 +18,8 @@ use Rattle.ds3231.specs.declared.Ds3231.{Ds3231}
 use Rattle.ds3231.specs.declared.Ds3231Config.{Ds3231Config}
 use Rattle.ds3231.specs.declared.Phase.{Phase}
 use Rattle.ds3231.specs.declared.Registers.{Registers}
-use Rattle.ds3231_parts.specs.Answers.{readByte}
-use Rattle.ds3231_parts.specs.declared.Event as Event
+use Rattle.ds3231_registers.specs.Answers.{readByte}
+use Rattle.ds3231_events.specs.declared.Event as Event
 use Rattle.script.specs.Records.{instantOf, kindOf, valueOf, recordsIn, checkedLength, checkedRecords}
 use Rattle.script.specs.Answers.{faultNumbered}
 use Rattle.script.specs.declared.runs.RunAnswer.{RunAnswer}

@@ -3,7 +3,7 @@
 use mathlib.Core.Path.{refl, ap, _∙_}
 use Rattle.refusals.specs.Numbered.{accepted}
 use Rattle.ds3231.specs.Calls.{byte}
-use Rattle.ds3231_parts.proofs.AnswerLaws.{read-reply}
+use Rattle.ds3231_registers.proofs.AnswerLaws.{read-reply}
 use Rattle.ds3231_step.proofs.EventLaws.{checked-yes, checked-no, refused-step, done-step}
 use borrow.Author.Needs.{needs}
 use Rattle.ds3231_step.proofs.events.read.Statement.{statement}

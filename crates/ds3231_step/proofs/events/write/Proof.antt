@@ -6,8 +6,8 @@ use Rattle.refusals.specs.Numbered.{accepted}
 use Rattle.fields.specs.Table.{Meaning}
 use Rattle.fields.specs.Answers.{decodedMeaning}
 use Rattle.ds3231.specs.Timing.{isDefined}
-use Rattle.ds3231_parts.specs.Events.{meaningIn, writtenAs, writeReportsIf}
-use Rattle.ds3231_parts.proofs.EventLaws.{written-as, write-reports}
+use Rattle.ds3231_parts.specs.Written.{meaningIn, writtenAs, writeReportsIf}
+use Rattle.ds3231_parts.proofs.WrittenLaws.{written-as, write-reports}
 use Rattle.ds3231_step.proofs.EventLaws.{checked-yes, checked-no, refused-step, done-step}
 use borrow.Author.Needs.{needs}
 use Rattle.ds3231_step.proofs.events.write.Statement.{statement}

@@ -1,6 +1,6 @@
 -- `replaying::text::magnitude` is safe: no difference and no cast in it loses bits.
 -- Assumes nothing.
-use Rattle.ds3231_parts.proofs.RegisterLaws.{turned-fits, turned-casts, natural-casts}
+use Rattle.ds3231_registers.proofs.RegisterLaws.{turned-fits, turned-casts, natural-casts}
 use borrow.Author.Needs.{needs}
 use Rattle.replaying.proofs.text.magnitude.Statement.{statement}
 use Rattle.replaying.proofs.text.magnitude.Tie as tie

@@ -10,7 +10,7 @@ use Rattle.fields.specs.Answers.{decodedMeaning}
 use Rattle.diagnostics.specs.Reports.{countedAll, storedAll}
 use Rattle.diagnostics.specs.declared.I2cDiagnostic.{I2cDiagnostic}
 use Rattle.ds3231_parts.specs.Answers.{reportsOf}
-use Rattle.ds3231_parts.specs.Events.{eventAt}
+use Rattle.ds3231_events.specs.Events.{eventAt}
 use Rattle.ds3231_parts.specs.declared.Report.{Report}
 use Rattle.script.proofs.Turns.{timingOf, chipOf, Leaves, stored-one, stored-full, left-chip, left-reports, answers-by, Through, begins, turn, ends}
 use Rattle.script.proofs.runs.events.Statement.{statement}

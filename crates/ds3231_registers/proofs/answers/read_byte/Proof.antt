@@ -1,0 +1,54 @@
+-- `ds3231_registers::answers::read_byte` meets its contract.
+-- Assumes nothing.
+use borrow.Author.Needs.{needs}
+use Rattle.ds3231_registers.proofs.answers.read_byte.Statement.{statement}
+use Rattle.ds3231_registers.proofs.answers.read_byte.Tie as tie
+
+enum-told : tie.Need-enum-told
+enum-told c = search needs
+
+read-register-requires : tie.Need-read-register-requires
+read-register-requires c κs = search needs
+
+enum-told-2 : tie.Need-enum-told-2
+enum-told-2 c = search needs
+
+enum-told-3 : tie.Need-enum-told-3
+enum-told-3 c = search needs
+
+enum-told-4 : tie.Need-enum-told-4
+enum-told-4 c = search needs
+
+enum-told-5 : tie.Need-enum-told-5
+enum-told-5 c = search needs
+
+returns : tie.Need-returns
+returns c = rw (c .read-register .ensures, c .before .enum-told .given .1)
+
+returns-2 : tie.Need-returns-2
+returns-2 c = search needs
+
+returns-3 : tie.Need-returns-3
+returns-3 c = search needs
+
+returns-4 : tie.Need-returns-4
+returns-4 c = search needs
+
+returns-5 : tie.Need-returns-5
+returns-5 c = search needs
+
+pub read-byte-spec : {M : Type 1} → statement M
+read-byte-spec =
+    tie.close
+    (tie.spec
+    enum-told
+    read-register-requires
+    enum-told-2
+    enum-told-3
+    enum-told-4
+    enum-told-5
+    returns
+    returns-2
+    returns-3
+    returns-4
+    returns-5)

@@ -1,0 +1,21 @@
+-- `ds3231_registers::registers::conversion_end` meets its contract.
+-- Assumes nothing.
+use borrow.Author.Needs.{needs}
+use Rattle.ds3231_registers.proofs.registers.conversion_end.Statement.{statement}
+use Rattle.ds3231_registers.proofs.registers.conversion_end.Tie as tie
+
+starts-conversion-requires : tie.Need-starts-conversion-requires
+starts-conversion-requires c κs = search needs
+
+end-of-conversion-requires : tie.Need-end-of-conversion-requires
+end-of-conversion-requires c κs = search needs
+
+returns : tie.Need-returns
+returns c = rw (c .end-of-conversion .ensures, ← (c .before .before .starts-conversion .ensures), c .before .if1 .taken)
+
+returns-2 : tie.Need-returns-2
+returns-2 c = rw (← (c .before .starts-conversion .ensures), c .if1 .left)
+
+pub conversion-end-spec : {M : Type 1} → statement M
+conversion-end-spec =
+    tie.close (tie.spec starts-conversion-requires end-of-conversion-requires returns returns-2)

@@ -1,0 +1,14 @@
+-- `ds3231_registers::registers::starts_conversion` meets its contract.
+-- Assumes nothing.
+use borrow.Author.Needs.{needs}
+use Rattle.ds3231_registers.proofs.registers.starts_conversion.Statement.{statement}
+use Rattle.ds3231_registers.proofs.registers.starts_conversion.Tie as tie
+
+converting-requires : tie.Need-converting-requires
+converting-requires c κs = search needs
+
+returns : tie.Need-returns
+returns c = rw (c .converting .ensures)
+
+pub starts-conversion-spec : {M : Type 1} → statement M
+starts-conversion-spec = tie.close (tie.spec converting-requires returns)

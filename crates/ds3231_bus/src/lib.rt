@@ -9,12 +9,6 @@ use ds3231::Ds3231;
 mod outcomes;
 mod takings;
 
-pub use outcomes::Outcome;
-pub use outcomes::addressed;
-pub use outcomes::has_read;
-pub use outcomes::stopped;
-pub use outcomes::written;
-
 // What a bus call answers: START and WRITE an acknowledge, READ a byte.
 pub enum BusAnswer {
     Acknowledge(bool),

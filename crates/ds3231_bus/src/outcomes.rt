@@ -21,37 +21,37 @@ use ds3231_step::Stepped;
 use ds3231_step::is_sound;
 
 // Where no record is written, `slot` is 0 and `diagnostic` is `no_diagnostic`'s.
-pub struct Outcome {
-    pub chip: Ds3231,
-    pub answer: BusAnswer,
-    pub write: bool,
-    pub slot: usize,
-    pub diagnostic: I2cDiagnostic,
+pub(crate) struct Outcome {
+    pub(crate) chip: Ds3231,
+    pub(crate) answer: BusAnswer,
+    pub(crate) write: bool,
+    pub(crate) slot: usize,
+    pub(crate) diagnostic: I2cDiagnostic,
 }
 
 // START, with a store of `len` records.
-pub fn addressed(chip: Ds3231, len: usize, address: u8, read: bool, at: u64) -> Outcome
+pub(crate) fn addressed(chip: Ds3231, len: usize, address: u8, read: bool, at: u64) -> Outcome
     ensures { λ r. ⌜ OutcomeOn (START address read at) chip len r ⌝ }
 {
     kept(chip, len, ds3231_step::address(chip, address, read, at))
 }
 
 // WRITE, with a store of `len` records.
-pub fn written(chip: Ds3231, len: usize, byte: u8, at: u64) -> Outcome
+pub(crate) fn written(chip: Ds3231, len: usize, byte: u8, at: u64) -> Outcome
     ensures { λ r. ⌜ OutcomeOn (WRITE byte at) chip len r ⌝ }
 {
     kept(chip, len, ds3231_step::write(chip, byte, at))
 }
 
 // READ, with a store of `len` records.
-pub fn has_read(chip: Ds3231, len: usize, acknowledged: bool, at: u64) -> Outcome
+pub(crate) fn has_read(chip: Ds3231, len: usize, acknowledged: bool, at: u64) -> Outcome
     ensures { λ r. ⌜ OutcomeOn (READ acknowledged at) chip len r ⌝ }
 {
     kept(chip, len, ds3231_step::read(chip, acknowledged, at))
 }
 
 // STOP, with a store of `len` records.
-pub fn stopped(chip: Ds3231, len: usize, at: u64) -> Outcome
+pub(crate) fn stopped(chip: Ds3231, len: usize, at: u64) -> Outcome
     ensures { λ r. ⌜ OutcomeOn (STOP at) chip len r ⌝ }
 {
     kept(chip, len, ds3231_step::stop(chip, at))

@@ -16,7 +16,7 @@ use ds3231_registers::registers::LAST_REGISTER;
 use fields::Decoded;
 
 // START and STOP end the transaction before them.
-pub fn ends_transaction(event: Event) -> bool
+fn ends_transaction(event: Event) -> bool
     ensures { λ r. ⌜ r ≡ endsTransaction event ⌝ }
 {
     match event {

@@ -16,7 +16,7 @@ const DAYS_PER_WEEK: u64 = 7;
 pub const SECONDS_IN_RANGE: u64 = 6_311_433_600;
 
 // The seconds since 2000 that the clock shows.
-pub fn seconds(clock: Clock, at: u64) -> u64
+fn seconds(clock: Clock, at: u64) -> u64
     ensures { λ r. ⌜ r ≡ secondsAt clock at ⌝ }
 {
     let elapsed = since(clock.base_at, at) / NANOS_PER_SECOND;
@@ -38,14 +38,14 @@ pub fn now(clock: Clock, at: u64) -> DateTime
 }
 
 // The weekday that it shows.
-pub fn weekday(clock: Clock, at: u64) -> u8
+pub(crate) fn weekday(clock: Clock, at: u64) -> u8
     ensures { λ r. ⌜ r ≡ weekdayAt clock at ⌝ }
 {
     calendar::weekday_of_day(seconds(clock, at) / SECONDS_PER_DAY, clock.weekday_offset)
 }
 
 // The instant at which the second running at `at` began.
-pub fn second_start(clock: Clock, at: u64) -> u64
+pub(crate) fn second_start(clock: Clock, at: u64) -> u64
     ensures { λ r. ⌜ r ≡ secondStart clock at ⌝ }
 {
     let into_second = since(clock.base_at, at) % NANOS_PER_SECOND;

@@ -55,7 +55,7 @@ accepted-run s room a = by (checkedLength (length s)) (sym (run-is s room) ∙ a
     by (accepted u) e = accepted-room s room e
     by (refused n vs) e = never e
 
--- the store has 256 records, and a byte for each record of the script is lent
+-- the store has 256 records, a byte for each record of the script is lent, and the chip is sound
 pub accepted-on : (c : Ds3231) (len : ℕ) (s : List ℕ) (room : ℕ) → verdictOn c len s room ≡ accepted tt → (len ≡ 256) × (room ≡ recordsIn s) × (sound c ≡ true)
 unfolding verdictOn
 accepted-on c len s room = by (sound c) (eqb len 256) refl refl

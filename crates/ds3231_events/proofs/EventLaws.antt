@@ -1,17 +1,19 @@
 -- What an event makes of each part of the chip, put together, is what `step` makes; and an event that is no WRITE keeps the registers.
 -- Assumes nothing.
-use Prim.Native.Nat.{ℕ, _+_}
+use Prim.Native.Nat.{ℕ, _+_, _<_}
 use mathlib.Core.Bool.{Bool, true, false}
 use mathlib.Core.Path.{_≡_, refl, _∙_}
 use lib.Dec.{leb}
 use Rattle.computed.specs.Choice.{if_then_else_}
 use Rattle.ds3231.specs.Timing.{isDefined, changedMode, written, hasRead, inPhase, pointed, latch}
+use Rattle.ds3231.specs.Registers.{othersWritten}
 use Rattle.ds3231.specs.Calls.{step}
 use Rattle.ds3231.specs.declared.Ds3231.{Ds3231}
 use Rattle.ds3231.specs.declared.Phase.{Phase}
 use Rattle.ds3231.specs.declared.Phase.the-variants.{Released, Pointer, Writing, Reading, Ignoring}
 use Rattle.ds3231.specs.declared.Registers.{Registers}
 use Rattle.ds3231.specs.declared.Timing.{Timing}
+use Rattle.ds3231_registers.proofs.RegisterLaws.{written-below}
 use Rattle.ds3231_parts.specs.Written.{pendingAfter}
 use Rattle.ds3231_parts.proofs.WrittenLaws.{write-reports}
 use Rattle.ds3231_events.specs.Events.{eventAt, meaningOf, clockAfter, isPendingAfter, latchedAfter, phaseAfter, pointerAfter, registersAfter, reportsAfter}
@@ -89,3 +91,11 @@ other-event-keeps (Start a r) p n g t w = refl
 other-event-keeps (Write b) p n g t w = absurd (w b refl)
 other-event-keeps (Read k) p n g t w = refl
 other-event-keeps Stop p n g t w = refl
+
+-- a WRITE to a register of the time keeps them too
+pub time-byte-keeps : (p : Phase) (r b t : ℕ) (g : Registers) → r < 7 → g ≡ othersWritten p r b t g
+time-byte-keeps Released r b t g h = refl
+time-byte-keeps Pointer r b t g h = refl
+time-byte-keeps Reading r b t g h = refl
+time-byte-keeps Ignoring r b t g h = refl
+time-byte-keeps Writing r b t g h = written-below r b t g h

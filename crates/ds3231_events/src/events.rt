@@ -13,6 +13,7 @@ use ds3231_parts::reports;
 use ds3231_parts::timing;
 use ds3231_registers::registers;
 use ds3231_registers::registers::LAST_REGISTER;
+use ds3231_registers::registers::YEAR;
 use fields::Decoded;
 
 // START and STOP end the transaction before them.
@@ -62,7 +63,7 @@ pub fn pends_after(event: Event, defined: bool, is_pending: bool) -> bool
     defined | (!ends_transaction(event) & is_pending)
 }
 
-// The registers outside the time.
+// The registers outside the time: only a WRITE that goes to one of them changes them.
 pub fn registers_after(
     event: Event,
     phase: Phase,
@@ -73,7 +74,12 @@ pub fn registers_after(
     ensures { λ r. ⌜ r ≡ registersAfter event phase pointer registers at ⌝ }
 {
     match event {
-        Event::Write { byte } => registers::write(registers, phase, pointer, byte, at),
+        Event::Write { byte } => {
+            if pointer <= YEAR {
+                return registers;
+            }
+            registers::write(registers, phase, pointer, byte, at)
+        }
         _ => registers,
     }
 }

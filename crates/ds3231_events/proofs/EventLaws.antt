@@ -2,13 +2,20 @@
 -- Assumes nothing.
 use Prim.Native.Nat.{ℕ, _+_, _<_}
 use mathlib.Core.Bool.{Bool, true, false}
+use mathlib.Core.List.{List}
 use mathlib.Core.Path.{_≡_, refl, _∙_}
 use lib.Dec.{leb}
 use Rattle.computed.specs.Choice.{if_then_else_}
+use Rattle.fields.specs.Table.{Meaning}
+use Rattle.diagnostics.specs.Reports.{countedAll}
+use Rattle.diagnostics.specs.declared.Diagnostics.{Diagnostics}
+use Rattle.diagnostics.specs.declared.I2cDiagnostic.{I2cDiagnostic}
 use Rattle.ds3231.specs.Timing.{isDefined, changedMode, written, hasRead, inPhase, pointed, latch}
 use Rattle.ds3231.specs.Registers.{othersWritten}
-use Rattle.ds3231.specs.Calls.{step}
+use Rattle.ds3231.specs.Calls.{step, stepChip}
+use Rattle.ds3231.specs.declared.Clock.{Clock}
 use Rattle.ds3231.specs.declared.Ds3231.{Ds3231}
+use Rattle.ds3231.specs.declared.PendingTime.{PendingTime}
 use Rattle.ds3231.specs.declared.Phase.{Phase}
 use Rattle.ds3231.specs.declared.Phase.the-variants.{Released, Pointer, Writing, Reading, Ignoring}
 use Rattle.ds3231.specs.declared.Registers.{Registers}
@@ -84,6 +91,26 @@ reports-by-parts (Start a r) t c = refl
 reports-by-parts (Write b) t c = write-reports (c .timing .phase) (c .timing .pointer) b t (c .registers)
 reports-by-parts (Read k) t c = refl
 reports-by-parts Stop t c = refl
+
+-- the timing of the parts that an event leaves: m is what its byte means for the time
+pub timing-left : (e : Event) (t : ℕ) (c : Ds3231) (m : Meaning) (k : Clock) (twelve : Bool) (bytes : List ℕ) (defined pends : Bool) (q : PendingTime) (p : Phase) (n : ℕ)
+    → m ≡ meaningOf e (c .timing .phase) (c .timing .pointer) → defined ≡ isDefined m → p ≡ phaseAfter e (c .timing .phase) → n ≡ pointerAfter e (c .timing .phase) (c .timing .pointer)
+    → k ≡ clockAfter e (c .timing .«is_pending») (c .timing .pending) (c .timing .clock) → twelve ≡ changedMode m (c .timing .«twelve_hour»)
+    → bytes ≡ latchedAfter e (c .timing .phase) (c .timing .pointer) k twelve (c .timing .latched) t → pends ≡ isPendingAfter e defined (c .timing .«is_pending»)
+    → q ≡ pendingAfter m (c .timing .«is_pending») (c .timing .pending) k t
+    → record { phase = p; pointer = n; clock = k; «twelve_hour» = twelve; latched = bytes; «is_pending» = pends; pending = q } ≡ step (eventAt e t) c .timing
+timing-left e t c m k twelve bytes defined pends q p n em ed ep en ek ew eb es eq =
+    rw (eb, es, eq, ew, ek, ed, em, ep, en) (timing-by-parts e t c)
+
+-- the reports that an event leaves, and the chip of what it leaves
+pub reports-left : (e : Event) (t : ℕ) (c : Ds3231) (m : Meaning) (defined : Bool) (rs : List I2cDiagnostic) → m ≡ meaningOf e (c .timing .phase) (c .timing .pointer) → defined ≡ isDefined m
+    → rs ≡ reportsAfter e (c .timing .phase) (c .timing .pointer) defined (c .registers) (c .timing .«is_pending») (c .timing .pending) t → rs ≡ step (eventAt e t) c .reports
+reports-left e t c m defined rs em ed er = rw (er, ed, em) (reports-by-parts e t c)
+
+pub chip-left : (e : Event) (t : ℕ) (c : Ds3231) (k : Timing) (g : Registers) (d : Diagnostics) (rs : List I2cDiagnostic)
+    → k ≡ step (eventAt e t) c .timing → g ≡ registersAfter e (c .timing .phase) (c .timing .pointer) (c .registers) t → d ≡ countedAll rs (c .diagnostics) → rs ≡ step (eventAt e t) c .reports
+    → record { timing = k; registers = g; diagnostics = d } ≡ stepChip (step (eventAt e t) c) c
+chip-left e t c k g d rs ek eg ed er = rw (ek, eg ∙ registers-by-parts e t c, ed, er)
 
 -- an event that is no WRITE keeps the registers
 pub other-event-keeps : (e : Event) (p : Phase) (n : ℕ) (g : Registers) (t : ℕ) → ((b : ℕ) → e ≡ Write b → ⊥) → g ≡ registersAfter e p n g t

@@ -1,21 +1,13 @@
--- A WRITE by what its byte means, and its reports by whether the byte is defined, are those of `ds3231`.
+-- The reports of a WRITE, by whether its byte is defined, are those of `ds3231`.
 -- Assumes nothing.
 use Prim.Native.Nat.{ℕ}
 use mathlib.Core.Path.{_≡_, refl}
-use Rattle.ds3231.specs.Timing.{isDefined, written}
+use Rattle.ds3231.specs.Timing.{isDefined}
 use Rattle.ds3231.specs.Calls.{writeReports}
 use Rattle.ds3231.specs.declared.Phase.{Phase}
 use Rattle.ds3231.specs.declared.Phase.the-variants.{Released, Pointer, Writing, Reading, Ignoring}
 use Rattle.ds3231.specs.declared.Registers.{Registers}
-use Rattle.ds3231.specs.declared.Timing.{Timing}
-use Rattle.ds3231_parts.specs.Written.{meaningIn, writtenAs, writeReportsIf}
-
-pub written-as : (p : Phase) (b t : ℕ) (c : Timing) → writtenAs p (meaningIn p (c .pointer) b) b t c ≡ written p b t c
-written-as Released b t c = refl
-written-as Reading b t c = refl
-written-as Ignoring b t c = refl
-written-as Pointer b t c = refl
-written-as Writing b t c = refl
+use Rattle.ds3231_parts.specs.Written.{meaningIn, writeReportsIf}
 
 pub write-reports : (p : Phase) (r b t : ℕ) (g : Registers) → writeReportsIf p (isDefined (meaningIn p r b)) r b t g ≡ writeReports p r b t g
 write-reports Released r b t g = refl

@@ -1,5 +1,5 @@
 -- A byte written: what it means for the time in a phase, what it makes of the pending time, and what is reported by whether it is defined.
--- That these are the definitions of `ds3231` is proved (proofs/WrittenLaws.antt).
+-- That the reports are those of `ds3231` is proved (proofs/WrittenLaws.antt), and in `ds3231_events` that an event by these is `step` (proofs/EventLaws.antt).
 -- Assumes nothing.
 use Prim.Native.Nat.{ℕ}
 use mathlib.Core.Bool.{Bool, true, false, not, _&&_}
@@ -12,7 +12,7 @@ use Rattle.fields.specs.Table.{Meaning, undefined, sets, meaning, toDigits}
 use Rattle.diagnostics.specs.Reports.{report}
 use Rattle.diagnostics.specs.declared.I2cDiagnostic.{I2cDiagnostic}
 use Rattle.diagnostics.specs.declared.I2cDiagnosticKind.the-variants.{NotModelled, ReadOnly, NoSuchRegister, Undefined}
-use Rattle.ds3231.specs.Timing.{isDefined, changedTime, changedWeekday, noted, opened, nextPointer, accept, inPhase, pointed}
+use Rattle.ds3231.specs.Timing.{isDefined, changedTime, changedWeekday, noted, opened}
 use Rattle.ds3231.specs.Registers.{enablesOutput}
 use Rattle.ds3231.specs.declared.Clock.{Clock}
 use Rattle.ds3231.specs.declared.PendingTime.{PendingTime}
@@ -20,7 +20,6 @@ use Rattle.ds3231.specs.declared.SecondsAt.the-variants.{Written}
 use Rattle.ds3231.specs.declared.Phase.{Phase}
 use Rattle.ds3231.specs.declared.Phase.the-variants.{Released, Pointer, Writing, Reading, Ignoring}
 use Rattle.ds3231.specs.declared.Registers.{Registers}
-use Rattle.ds3231.specs.declared.Timing.{Timing}
 
 -- what a byte written in a phase means for the time
 abbrev pub meaningIn : Phase → ℕ → ℕ → Meaning
@@ -29,14 +28,6 @@ meaningIn Reading r b = undefined
 meaningIn Pointer r b = undefined
 meaningIn Ignoring r b = undefined
 meaningIn Writing r b = meaning r b
-
--- WRITE in a phase, by what its byte means for the time
-abbrev pub writtenAs : Phase → Meaning → ℕ → ℕ → Timing → Timing
-writtenAs Released m b t c = c
-writtenAs Reading m b t c = c
-writtenAs Ignoring m b t c = c
-writtenAs Pointer m b t c = if leb b 0x12 then inPhase Writing (pointed b c) else inPhase Ignoring c
-writtenAs Writing m b t c = pointed (nextPointer (c .pointer)) (accept m t c)
 
 -- ---- the pending time
 

@@ -7,7 +7,6 @@ ghost use Rattle.computed.specs.Choice.{if_then_else_};
 ghost use Rattle.diagnostics.specs.Reports.{report, countedAll};
 ghost use Rattle.diagnostics.specs.declared.I2cDiagnosticKind.the-variants.{NotModelled, NoSuchRegister, Undefined};
 ghost use Rattle.ds3231.specs.Registers.{enablesOutput};
-ghost use Rattle.ds3231.specs.Calls.{commitReports};
 ghost use Rattle.ds3231_parts.specs.Answers.{reportsOf};
 ghost use Rattle.ds3231_parts.specs.Written.{dayReports, registerReportsIf, writeReportsIf};
 use crate::Report;
@@ -20,7 +19,6 @@ use diagnostics::I2cDiagnosticKind;
 use diagnostics::one_more;
 use ds3231::Phase;
 use ds3231::Registers;
-use ds3231::Timing;
 use ds3231_registers::registers::CONTROL;
 use ds3231_registers::registers::DATE;
 use ds3231_registers::registers::LAST_REGISTER;
@@ -82,16 +80,7 @@ fn time_report(defined: bool, register: u8, byte: u8, at: u64) -> Report
     )
 }
 
-// A commit reports a day past the end of its month, in the digits of its register.
-pub fn commit_report(timing: Timing, at: u64) -> Report
-    ensures { λ r. ⌜ reportsOf r ≡ commitReports at timing ⌝ }
-{
-    let pending = timing.pending;
-    let time = pending.time;
-    day_report(timing.is_pending, time, at)
-}
-
-// The same of a time that is pending or not.
+// A commit of a pending time reports a day past the end of its month, in the digits of its register.
 pub fn day_report(is_pending: bool, time: DateTime, at: u64) -> Report
     ensures { λ r. ⌜ reportsOf r ≡ dayReports «is_pending» time at ⌝ }
 {

@@ -1,13 +1,13 @@
-// What the bus does to the part of the chip that keeps the time: the latch, the bytes of the time registers, the commit, and the four events.
+// What the bus does to the part of the chip that keeps the time: the latch, a byte at a time register, the clock that a
+// commit sets, the pointer and the phase after a START.
 ghost use mathlib.Core.Path.{_≡_};
 ghost use Prim.Native.Nat.{_+_, _≤_};
 ghost use Rattle.computed.specs.Choice.{if_then_else_};
 ghost use Rattle.fields.specs.Table.{timeBytes};
 ghost use Rattle.fields.specs.Answers.{fieldMeaning, decodedMeaning};
-ghost use Rattle.ds3231.specs.declared.Phase.the-variants.{Reading};
 ghost use Rattle.ds3231.specs.Clock.{timeAt, weekdayAt};
-ghost use Rattle.ds3231.specs.Timing.{isDefined, changedTime, changedWeekday, changedMode, opened as openedAt, baseFor, clockFrom, shownAt, latch as latchAt, inPhase, pointed as pointedAt, commit as committed, accept, nextPointer, addressed as addressedBy, started, hasRead, stopped};
-ghost use Rattle.ds3231_parts.specs.Written.{meaningIn, writtenAs, pendingAfter, setsSeconds, changedFields, fromSecondsAt};
+ghost use Rattle.ds3231.specs.Timing.{isDefined, changedTime, changedWeekday, changedMode, opened as openedAt, baseFor, clockFrom, shownAt, latch as latchAt, nextPointer, addressed as addressedBy};
+ghost use Rattle.ds3231_parts.specs.Written.{meaningIn, pendingAfter, setsSeconds, changedFields, fromSecondsAt};
 use crate::clock;
 use calendar::DateTime;
 use ds3231::Clock;
@@ -51,33 +51,6 @@ pub fn latch(timing: Timing, at: u64) -> Timing
     let latched = time_registers(timing, at);
     let mut timing = timing;
     timing.latched = latched;
-    timing
-}
-
-// The same in another phase.
-fn in_phase(timing: Timing, phase: Phase) -> Timing
-    ensures { λ r. ⌜ r ≡ inPhase phase timing ⌝ }
-{
-    let clock = timing.clock;
-    let latched = timing.latched;
-    let pending = timing.pending;
-    Timing {
-        phase,
-        pointer: timing.pointer,
-        clock,
-        twelve_hour: timing.twelve_hour,
-        latched,
-        is_pending: timing.is_pending,
-        pending,
-    }
-}
-
-// The same with the pointer at a register.
-fn pointed(timing: Timing, register: u8) -> Timing
-    ensures { λ r. ⌜ r ≡ pointedAt register timing ⌝ }
-{
-    let mut timing = timing;
-    timing.pointer = register;
     timing
 }
 
@@ -300,35 +273,7 @@ pub fn mode_after(decoded: Decoded, twelve_hour: bool) -> bool
     }
 }
 
-// A byte written to a time register is noted in the pending time, which waits for the end of the transaction. An
-// undefined one changes nothing.
-fn write_time(timing: Timing, decoded: Decoded, at: u64) -> Timing
-    ensures { λ r. ⌜ r ≡ accept (decodedMeaning decoded) at timing ⌝ }
-{
-    let clock = timing.clock;
-    let pending = timing.pending;
-    let mut timing = timing;
-    timing.pending = pending_after(decoded, timing.is_pending, pending, clock, at);
-    timing.twelve_hour = mode_after(decoded, timing.twelve_hour);
-    timing.is_pending = is_defined(decoded) | timing.is_pending;
-    timing
-}
-
 // ---- the end of a transaction
-
-// The pending time is applied.
-fn commit(timing: Timing) -> Timing
-    ensures { λ r. ⌜ r ≡ committed timing ⌝ }
-{
-    let mut timing = timing;
-    if timing.is_pending {
-        let clock = timing.clock;
-        let pending = timing.pending;
-        timing.clock = clock_from(clock, pending);
-        timing.is_pending = false;
-    }
-    timing
-}
 
 // The clock that a pending time sets: a day past the month's end becomes its last day.
 pub fn clock_from(clock: Clock, pending: PendingTime) -> Clock
@@ -350,6 +295,8 @@ fn base_for(clock: Clock, first_at: u64, seconds_at: SecondsAt) -> u64
     }
 }
 
+// ---- the pointer and the phase
+
 // The pointer after a register: up by one, from 0x12 to 0x00.
 pub fn next(register: u8) -> u8
     ensures { λ r. ⌜ r ≡ nextPointer register ⌝ }
@@ -361,16 +308,6 @@ pub fn next(register: u8) -> u8
     }
 }
 
-// ---- the events
-
-// START ends the transaction before it and latches the time, whomever it addresses.
-pub fn address(timing: Timing, address: u8, read: bool, at: u64) -> Timing
-    ensures { λ r. ⌜ r ≡ started address read at timing ⌝ }
-{
-    let latched = latch(commit(timing), at);
-    in_phase(latched, addressed(address, read))
-}
-
 // The phase after a START: only 0x68 is addressed.
 pub fn addressed(address: u8, read: bool) -> Phase
     ensures { λ r. ⌜ r ≡ addressedBy address read ⌝ }
@@ -379,60 +316,4 @@ pub fn addressed(address: u8, read: bool) -> Phase
         return Phase::Released;
     }
     if read { Phase::Reading } else { Phase::Pointer }
-}
-
-// WRITE: the pointer byte, then bytes to registers, by what the byte means for the time.
-pub fn write(timing: Timing, decoded: Decoded, byte: u8, at: u64) -> Timing
-    ensures { λ r. ⌜ r ≡ writtenAs (timing .phase) (decodedMeaning decoded) byte at timing ⌝ }
-{
-    let phase = timing.phase;
-    match phase {
-        Phase::Pointer => {
-            if byte > LAST_REGISTER {
-                in_phase(timing, Phase::Ignoring)
-            } else {
-                in_phase(pointed(timing, byte), Phase::Writing)
-            }
-        }
-        Phase::Writing => {
-            let register = timing.pointer;
-            pointed(write_time(timing, decoded, at), next(register))
-        }
-        Phase::Ignoring => timing,
-        Phase::Released => timing,
-        Phase::Reading => timing,
-    }
-}
-
-// READ moves the pointer, and latches the time anew where it goes to 0x00.
-pub fn read(timing: Timing, at: u64) -> Timing
-    ensures { λ r. ⌜ r ≡ hasRead (timing .phase) at timing ⌝ }
-{
-    let phase = timing.phase;
-    match phase {
-        Phase::Reading => moved(timing, at),
-        Phase::Released => timing,
-        Phase::Pointer => timing,
-        Phase::Writing => timing,
-        Phase::Ignoring => timing,
-    }
-}
-
-// The pointer moved past a register that was read.
-fn moved(timing: Timing, at: u64) -> Timing
-    ensures { λ r. ⌜ r ≡ hasRead Reading at timing ⌝ }
-{
-    let register = next(timing.pointer);
-    let timing = pointed(timing, register);
-    if register == SECONDS {
-        return latch(timing, at);
-    }
-    timing
-}
-
-// STOP ends the transaction.
-pub fn stop(timing: Timing) -> Timing
-    ensures { λ r. ⌜ r ≡ stopped timing ⌝ }
-{
-    in_phase(commit(timing), Phase::Released)
 }

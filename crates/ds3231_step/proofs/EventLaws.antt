@@ -6,16 +6,12 @@ use mathlib.Core.Path.{_≡_, sym, ap, _∙_}
 use borrow.Author.Tests.{not-true, not-false}
 use Rattle.refusals.specs.Numbered.{Numbered, accepted, refused, andThen, unless}
 use Rattle.computed.specs.Choice.{if_then_else_}
-use Rattle.diagnostics.specs.Reports.{countedAll}
 use Rattle.ds3231.specs.Calls.{sound, checkedChip, Event, step, stepChip}
 use Rattle.ds3231.specs.declared.Ds3231.{Ds3231}
-use Rattle.ds3231.specs.declared.Timing.{Timing}
-use Rattle.ds3231.specs.declared.Registers.{Registers}
 use Rattle.ds3231_parts.specs.Answers.{reportsOf}
 use Rattle.ds3231_step.specs.Answers.{eventNumbered, SteppedBy}
 use Rattle.ds3231_step.specs.declared.EventAnswer.{EventAnswer}
 use Rattle.ds3231_step.specs.declared.EventAnswer.the-variants.{NotSound}
-use Rattle.ds3231_parts.specs.declared.Report.{Report}
 use Rattle.ds3231_parts.specs.declared.Report.the-variants.{None}
 use Rattle.ds3231_step.specs.declared.Stepped.{Stepped}
 
@@ -39,14 +35,11 @@ refused-step e c r n q =
     }
 
 -- an event that is not
-pub done-step : (e : Event) (c : Ds3231) (t : Timing) (g : Registers) (a : EventAnswer) (p : Report) (r : Stepped) → checkedChip c ≡ accepted tt
-    → r ≡ record { chip = record { timing = t; registers = g; diagnostics = countedAll (reportsOf p) (c .diagnostics) }; answer = a; report = p }
-    → t ≡ step e c .timing → g ≡ step e c .registers → eventNumbered a ≡ accepted (step e c .reply) → reportsOf p ≡ step e c .reports → SteppedBy e c r
-done-step e c t g a p r n q et eg ea ep =
+pub done-step : (e : Event) (c : Ds3231) (a : EventAnswer) (r : Stepped) → checkedChip c ≡ accepted tt
+    → (r .chip ≡ stepChip (step e c) c) × (r .answer ≡ a) × (reportsOf (r .report) ≡ step e c .reports) → eventNumbered a ≡ accepted (step e c .reply) → SteppedBy e c r
+done-step e c a r n q ea =
     record {
-      answer = ap (λ (x : Stepped). eventNumbered (x .answer)) q ∙ ea ∙ sym (ap (λ (v : Numbered (Unit {0})). andThen v (accepted (step e c .reply))) n);
-      chip =
-          ap (λ (x : Stepped). x .chip) q ∙ (λ j. record { timing = et j; registers = eg j; diagnostics = countedAll (ep j) (c .diagnostics) })
-          ∙ sym (ap (λ (v : Numbered (Unit {0})). unless v (stepChip (step e c) c) c) n);
-      reports = ap (λ (x : Stepped). reportsOf (x .report)) q ∙ ep ∙ sym (ap (λ (v : Numbered (Unit {0})). unless v (step e c .reports) []) n);
+      answer = ap eventNumbered (q .1) ∙ ea ∙ sym (ap (λ (v : Numbered (Unit {0})). andThen v (accepted (step e c .reply))) n);
+      chip = q .0 ∙ sym (ap (λ (v : Numbered (Unit {0})). unless v (stepChip (step e c) c) c) n);
+      reports = q .2 ∙ sym (ap (λ (v : Numbered (Unit {0})). unless v (step e c .reports) []) n);
     }

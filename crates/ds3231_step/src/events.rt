@@ -1,21 +1,23 @@
 // The four events by value.
 ghost use mathlib.Core.Path.{_≡_};
-ghost use Rattle.ds3231.specs.Calls.{START, WRITE, READ, STOP};
-ghost use Rattle.diagnostics.specs.Reports.{countedAll};
+ghost use Rattle.fields.specs.Answers.{decodedMeaning};
+ghost use Rattle.ds3231.specs.Calls.{START, WRITE, READ, STOP, step, stepChip};
 ghost use Rattle.ds3231_parts.specs.Answers.{reportsOf};
+ghost use Rattle.ds3231_events.specs.Events.{eventAt, meaningOf};
 ghost use Rattle.ds3231_step.specs.Answers.{SteppedBy};
 use crate::EventAnswer;
 use crate::Stepped;
 use crate::sound::is_sound;
 use ds3231::Ds3231;
-use ds3231::Registers;
 use ds3231::Timing;
+use ds3231_events::Event;
+use ds3231_events::events;
 use ds3231_parts::Report;
 use ds3231_parts::reports;
 use ds3231_parts::timing;
 use ds3231_parts::timing::ADDRESS;
 use ds3231_registers::answers;
-use ds3231_registers::registers;
+use fields::Decoded;
 
 // START: it ends the transaction before it and latches the time, whomever it addresses.
 pub fn address(chip: Ds3231, address: u8, read: bool, at: u64) -> Stepped
@@ -24,12 +26,8 @@ pub fn address(chip: Ds3231, address: u8, read: bool, at: u64) -> Stepped
     if !is_sound(chip) {
         return not_sound(chip);
     }
-    let timing = chip.timing;
-    let report = reports::commit_report(timing, at);
-    let started = timing::address(timing, address, read, at);
-    let registers = chip.registers;
     let answer = EventAnswer::Acknowledge(address == ADDRESS);
-    stepped(chip, started, registers, answer, report)
+    stepped(chip, Event::Start { address, read }, answer, at)
 }
 
 // WRITE: the pointer, or a byte to the register at the pointer.
@@ -40,21 +38,9 @@ pub fn write(chip: Ds3231, byte: u8, at: u64) -> Stepped
         return not_sound(chip);
     }
     let timing = chip.timing;
-    let registers = chip.registers;
     let phase = timing.phase;
-    let register = timing.pointer;
-    let decoded = timing::decoded(phase, register, byte);
-    let defined = timing::is_defined(decoded);
-    let report = reports::write_report(phase, defined, registers, register, byte, at);
-    let written = registers::write(registers, phase, register, byte, at);
     let answer = EventAnswer::Acknowledge(answers::acknowledged(phase));
-    stepped(
-        chip,
-        timing::write(timing, decoded, byte, at),
-        written,
-        answer,
-        report,
-    )
+    stepped(chip, Event::Write { byte }, answer, at)
 }
 
 // READ: the byte at the pointer, 0xFF where the chip is not addressed for reading.
@@ -68,15 +54,9 @@ pub fn read(chip: Ds3231, acknowledged: bool, at: u64) -> Stepped
     let registers = chip.registers;
     let phase = timing.phase;
     let latched = timing.latched;
-    let read = answers::read_byte(phase, timing.pointer, latched, registers, at);
-    let answer = EventAnswer::Byte(read);
-    stepped(
-        chip,
-        timing::read(timing, at),
-        registers,
-        answer,
-        Report::None,
-    )
+    let byte = answers::read_byte(phase, timing.pointer, latched, registers, at);
+    let answer = EventAnswer::Byte(byte);
+    stepped(chip, Event::Read { acknowledged }, answer, at)
 }
 
 // STOP: it ends the transaction.
@@ -86,16 +66,7 @@ pub fn stop(chip: Ds3231, at: u64) -> Stepped
     if !is_sound(chip) {
         return not_sound(chip);
     }
-    let timing = chip.timing;
-    let report = reports::commit_report(timing, at);
-    let registers = chip.registers;
-    stepped(
-        chip,
-        timing::stop(timing),
-        registers,
-        EventAnswer::Done,
-        report,
-    )
+    stepped(chip, Event::Stop, EventAnswer::Done, at)
 }
 
 fn not_sound(chip: Ds3231) -> Stepped
@@ -108,26 +79,60 @@ fn not_sound(chip: Ds3231) -> Stepped
     }
 }
 
-// The chip with what an event left of it, its report counted.
-fn stepped(
-    chip: Ds3231,
-    timing: Timing,
-    registers: Registers,
-    answer: EventAnswer,
-    report: Report,
-) -> Stepped
-    ensures { λ r. ⌜ r ≡ record { chip = record { timing = timing; registers = registers; diagnostics = countedAll (reportsOf report) (chip .diagnostics) }; answer = answer; report = report } ⌝ }
+// What an event leaves of each part of the chip, its report counted.
+fn stepped(chip: Ds3231, event: Event, answer: EventAnswer, at: u64) -> Stepped
+    ensures { λ r. ⌜ (r .chip ≡ stepChip (step (eventAt event at) chip) chip) × (r .answer ≡ answer) × (reportsOf (r .report) ≡ step (eventAt event at) chip .reports) ⌝ }
 {
+    let before = chip.timing;
+    let phase = before.phase;
+    let pointer = before.pointer;
+    let pending = before.pending;
+    let registers = chip.registers;
     let counts = chip.diagnostics;
-    let diagnostics = reports::counted(counts, report);
-    let after = Ds3231 {
-        timing,
+    let decoded = events::decoded(event, phase, pointer);
+    let report = events::report(
+        event,
+        phase,
+        pointer,
+        timing::is_defined(decoded),
         registers,
-        diagnostics,
+        before.is_pending,
+        pending,
+        at,
+    );
+    let after = Ds3231 {
+        timing: timing_after(chip, event, decoded, at),
+        registers: events::registers_after(event, phase, pointer, registers, at),
+        diagnostics: reports::counted(counts, report),
     };
     Stepped {
         chip: after,
         answer,
         report,
+    }
+}
+
+// What an event leaves of the timing. `decoded` is what its byte means for the time.
+fn timing_after(chip: Ds3231, event: Event, decoded: Decoded, at: u64) -> Timing
+    requires { ⌜ decodedMeaning decoded ≡ meaningOf event (chip .timing .phase) (chip .timing .pointer) ⌝ }
+    ensures { λ r. ⌜ r ≡ step (eventAt event at) chip .timing ⌝ }
+{
+    let timing = chip.timing;
+    let phase = timing.phase;
+    let pointer = timing.pointer;
+    let is_pending = timing.is_pending;
+    let pending = timing.pending;
+    let before = timing.clock;
+    let clock = events::clock_after(event, is_pending, pending, before);
+    let twelve_hour = timing::mode_after(decoded, timing.twelve_hour);
+    let latched = timing.latched;
+    Timing {
+        phase: events::phase_after(event, phase),
+        pointer: events::pointer_after(event, phase, pointer),
+        clock,
+        twelve_hour,
+        latched: events::latched_after(event, phase, pointer, clock, twelve_hour, latched, at),
+        is_pending: events::pends_after(event, timing::is_defined(decoded), is_pending),
+        pending: timing::pending_after(decoded, is_pending, pending, clock, at),
     }
 }

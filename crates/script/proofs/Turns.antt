@@ -28,7 +28,7 @@ use Rattle.ds3231_parts.specs.Written.{pendingAfter}
 use Rattle.ds3231_events.specs.Events.{eventAt, meaningOf, clockAfter, isPendingAfter, latchedAfter, phaseAfter, pointerAfter, registersAfter, reportsAfter}
 use Rattle.ds3231_events.specs.declared.Event as Event
 use Rattle.ds3231_registers.proofs.AnswerLaws.{read-reply}
-use Rattle.ds3231_events.proofs.EventLaws.{timing-by-parts, registers-by-parts, reports-by-parts}
+use Rattle.ds3231_events.proofs.EventLaws.{timing-left, reports-left, chip-left}
 use Rattle.script.specs.Records.{recordsIn}
 use Rattle.script.specs.Runs.{Held, heldAt, answersTo, answerAt, answerBy, answerByte, replyByte, eventOf, RanThrough}
 use Rattle.script.specs.declared.runs.RunAnswer.the-variants.{Done}
@@ -58,29 +58,14 @@ pub record Leaves (e : Event.Event) (t : ℕ) (c : Ds3231) (m : Meaning) (define
   pub counts : d ≡ countedAll rs (c .diagnostics)
 
 module _ {e : Event.Event} {t : ℕ} {c : Ds3231} {m : Meaning} {defined : Bool} {p : Phase} {n : ℕ} {k : Clock} {twelve : Bool} {bytes : List ℕ} {pends : Bool} {q : PendingTime} {g : Registers} {d : Diagnostics} {rs : List I2cDiagnostic} (l : Leaves e t c m defined p n k twelve bytes pends q g d rs) where
-  mode-is : twelve ≡ changedMode (meaningOf e (c .timing .phase) (c .timing .pointer)) (c .timing .«twelve_hour»)
-  mode-is = l .mode ∙ ap (λ (x : Meaning). changedMode x (c .timing .«twelve_hour»)) (l .means)
-
-  defined-is : defined ≡ isDefined (meaningOf e (c .timing .phase) (c .timing .pointer))
-  defined-is = l .is-defined ∙ ap isDefined (l .means)
-
   left-timing : timingOf p n k twelve bytes pends q ≡ step (eventAt e t) c .timing
-  left-timing =
-      let latched = l .latched ∙ ap₂ (λ (x : Clock) (y : Bool). latchedAfter e (c .timing .phase) (c .timing .pointer) x y (c .timing .latched) t) (l .clock) mode-is in
-      let is-pending = l .is-pending ∙ ap (λ (x : Bool). isPendingAfter e x (c .timing .«is_pending»)) defined-is in
-      let pending = l .pending ∙ ap₂ (λ (x : Meaning) (y : Clock). pendingAfter x (c .timing .«is_pending») (c .timing .pending) y t) (l .means) (l .clock) in
-      (λ j. timingOf (l .phase j) (l .pointer j) (l .clock j) (mode-is j) (latched j) (is-pending j) (pending j)) ∙ timing-by-parts e t c
+  left-timing = timing-left e t c m k twelve bytes defined pends q p n (l .means) (l .is-defined) (l .phase) (l .pointer) (l .clock) (l .mode) (l .latched) (l .is-pending) (l .pending)
 
   pub left-reports : rs ≡ step (eventAt e t) c .reports
-  left-reports =
-      l .reports ∙ ap (λ (x : Bool). reportsAfter e (c .timing .phase) (c .timing .pointer) x (c .registers) (c .timing .«is_pending») (c .timing .pending) t) defined-is
-      ∙ reports-by-parts e t c
+  left-reports = reports-left e t c m defined rs (l .means) (l .is-defined) (l .reports)
 
   pub left-chip : chipOf (timingOf p n k twelve bytes pends q) g d ≡ stepChip (step (eventAt e t) c) c
-  left-chip =
-      let registers = l .registers ∙ registers-by-parts e t c in
-      let counts = l .counts ∙ ap (λ (x : List I2cDiagnostic). countedAll x (c .diagnostics)) left-reports in
-      λ j. chipOf (left-timing j) (registers j) (counts j)
+  left-chip = chip-left e t c (timingOf p n k twelve bytes pends q) g d rs left-timing (l .registers) (l .counts) left-reports
 
 -- a report is stored in the next free place, and nowhere in a full store
 pub stored-one : (x : I2cDiagnostic) (n : Diagnostics) (rs : List I2cDiagnostic) → n .waiting < 256 → set rs (n .waiting) x ≡ storedAll (x ∷ []) n rs

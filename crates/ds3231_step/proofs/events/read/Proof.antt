@@ -1,6 +1,6 @@
 -- `ds3231_step::events::read` meets its contract.
 -- Assumes nothing.
-use mathlib.Core.Path.{refl, ap, _∙_}
+use mathlib.Core.Path.{ap, _∙_}
 use Rattle.refusals.specs.Numbered.{accepted}
 use Rattle.ds3231.specs.Calls.{byte}
 use Rattle.ds3231_registers.proofs.AnswerLaws.{read-reply}
@@ -21,18 +21,15 @@ returns c = refused-step _ _ _ (checked-no _ _ (c .before .before .is-sound .ens
 read-byte-requires : tie.Need-read-byte-requires
 read-byte-requires c κs = search needs
 
-read-requires : tie.Need-read-requires
-read-requires c κs = search needs
-
 stepped-requires : tie.Need-stepped-requires
 stepped-requires c κs = search needs
 
 returns-2 : tie.Need-returns-2
 returns-2 c =
-    let b = c .before .before .before .before .before .before in
+    let b = c .before .before .before .before .before in
     let a = b .before .before .args in
-    done-step _ _ _ _ _ _ _ (checked-yes _ _ (b .before .is-sound .ensures) (b .if1 .left)) (c .stepped .ensures)
-    (c .before .read .ensures) refl (ap accepted (ap byte (c .before .before .read-byte .ensures) ∙ read-reply (a .chip .timing .phase) (a .at) (a .chip))) refl
+    done-step _ _ _ _ (checked-yes _ _ (b .before .is-sound .ensures) (b .if1 .left)) (c .stepped .ensures)
+    (ap accepted (ap byte (c .before .read-byte .ensures) ∙ read-reply (a .chip .timing .phase) (a .at) (a .chip)))
 
 pub read-spec : {M : Type 1} → statement M
 read-spec =
@@ -42,6 +39,5 @@ read-spec =
     not-sound-requires
     returns
     read-byte-requires
-    read-requires
     stepped-requires
     returns-2)

@@ -15,29 +15,14 @@ not-sound-requires c κs = search needs
 returns : tie.Need-returns
 returns c = refused-step _ _ _ (checked-no _ _ (c .before .before .is-sound .ensures) (c .before .if1 .taken)) (c .not-sound .ensures)
 
-commit-report-requires : tie.Need-commit-report-requires
-commit-report-requires c κs = search needs
-
-stop-requires : tie.Need-stop-requires
-stop-requires c κs = search needs
-
 stepped-requires : tie.Need-stepped-requires
 stepped-requires c κs = search needs
 
 returns-2 : tie.Need-returns-2
 returns-2 c =
-    let b = c .before .before .before .before .before in
-    done-step _ _ _ _ _ _ _ (checked-yes _ _ (b .before .is-sound .ensures) (b .if1 .left)) (c .stepped .ensures)
-    (c .before .stop .ensures) refl refl (c .before .before .before .commit-report .ensures)
+    let b = c .before in
+    done-step _ _ _ _ (checked-yes _ _ (b .before .is-sound .ensures) (b .if1 .left)) (c .stepped .ensures) refl
 
 pub stop-spec : {M : Type 1} → statement M
 stop-spec =
-    tie.close
-    (tie.spec
-    is-sound-requires
-    not-sound-requires
-    returns
-    commit-report-requires
-    stop-requires
-    stepped-requires
-    returns-2)
+    tie.close (tie.spec is-sound-requires not-sound-requires returns stepped-requires returns-2)

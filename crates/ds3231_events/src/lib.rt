@@ -1,5 +1,7 @@
-// The bus events of the DS3231 on each part of the chip alone, so that a run can update the parts in place. The events by value go by them too.
-// Module `events`: what an event makes of each part, from the parts that it depends on.
+// What a bus event makes of each part of the DS3231, for the events by value and for the run of scripts, which updates the
+// parts in place.
+// To read it: `specs/Events.antt` has what an event makes of each part, and `proofs/EventLaws.antt` that this is what
+// `ds3231`'s definition of the whole chip's step makes. The module `events` has a function for each.
 pub mod events;
 
 // A bus event, without its instant.

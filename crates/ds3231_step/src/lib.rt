@@ -1,6 +1,6 @@
 // The DS3231 by value: power-on, `now`, `register`, the dropped count, soundness, and the four events with no store.
 // Modules: `sound` has the soundness test, and `power`, `ask` and `events` the public calls. Each call tests the chip
-// and puts together what the functions of `ds3231_registers` and `ds3231_parts` make of its parts.
+// and puts together what the functions of `ds3231_registers`, `ds3231_parts` and `ds3231_events` make of its parts.
 use calendar::DateTime;
 use calendar::DateTimeError;
 use ds3231::Ds3231;

@@ -55,7 +55,7 @@ store-kept e c st = by (verdict (bus st e) c)
 
 -- a chip that is sound with a store of 256 records: after every record it is, and the event of the next is not refused
 module _ (s : List ℕ) (h : Held) (ok : sound (h .chip) ≡ true) (whole : length (h .store) ≡ 256) where
-  stays : (i : ℕ) → (sound (heldAt s h i .chip) ≡ true) × (length (heldAt s h i .store) ≡ 256)
+  pub stays : (i : ℕ) → (sound (heldAt s h i .chip) ≡ true) × (length (heldAt s h i .store) ≡ 256)
   unfolding heldAt
   stays zero = (ok, whole)
   stays (suc i) =

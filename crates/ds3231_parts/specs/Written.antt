@@ -31,17 +31,20 @@ meaningIn Writing r b = meaning r b
 
 -- ---- the pending time
 
+-- the pending time after a byte: a defined one opens it where none is pending, and is noted in it
 abbrev pub pendingAfter : Meaning → Bool → PendingTime → Clock → ℕ → PendingTime
 pendingAfter m pends p k t = if isDefined m then noted m t (if pends then p else opened k t) else p
 
--- its steps: the time and the weekday, then the instant of a seconds byte
+-- its steps: whether a byte sets the seconds
 abbrev pub setsSeconds : Meaning → Bool
 setsSeconds undefined = false
 setsSeconds (sets r n flag) = eqb r 0
 
+-- with the byte's field, the instant of the last seconds byte kept
 abbrev pub changedFields : Meaning → PendingTime → PendingTime
 changedFields m p = record { time = changedTime m (p .time); weekday = changedWeekday m (p .weekday); «first_at» = p .«first_at»; «seconds_at» = p .«seconds_at» }
 
+-- with its last seconds byte at an instant
 abbrev pub fromSecondsAt : ℕ → PendingTime → PendingTime
 fromSecondsAt t p = record { time = p .time; weekday = p .weekday; «first_at» = p .«first_at»; «seconds_at» = Written t }
 
@@ -59,6 +62,7 @@ registerReportsIf defined r b t g =
     else if leb 0x11 r then report t (ReadOnly r) ∷ []
     else []
 
+-- a byte written in a phase: the pointer byte, or one to the register at the pointer
 abbrev pub writeReportsIf : Phase → Bool → ℕ → ℕ → ℕ → Registers → List I2cDiagnostic
 writeReportsIf Released defined r b t g = []
 writeReportsIf Reading defined r b t g = []

@@ -13,8 +13,6 @@ use Rattle.diagnostics.proofs.Rows.{diagnostic, diagnostic-data}
 use Rattle.diagnostics.proofs.ReportRows.{counts, counts-data, answer as report-answer, answer-data as report-answer-data, kind}
 use Rattle.diagnostics.proofs.I2cDiagnostic as D
 use Rattle.diagnostics.proofs.I2cDiagnostic.Laws as D′
-use Rattle.diagnostics.proofs.I2cDiagnosticKind as K
-use Rattle.diagnostics.proofs.I2cDiagnosticKind.Laws as K′
 use Rattle.ds3231_bus.proofs.Rows.{chip, chip-data}
 use Rattle.ds3231_bus.proofs.BusRows.{answer as bus-answer, answer-data as bus-answer-data}
 use Rattle.ds3231_bus.proofs.TakingRows.{answer as take-answer, answer-data as take-answer-data}

@@ -2,7 +2,7 @@
 // gives back what the call left in them.
 // To read it: each contract is that of the call in `ds3231_bus`, on the values before and after. The structs hold what is
 // lent and what comes back.
-ghost use Rattle.ds3231.specs.Calls.{START, WRITE, READ, STOP};
+ghost use Rattle.ds3231.specs.declared.Event.the-variants.{Start, Write, Read, Stop};
 ghost use Rattle.diagnostics.specs.Reports.{report as reportOf};
 ghost use Rattle.diagnostics.specs.Lent.{ReportedTo};
 ghost use Rattle.ds3231_bus.specs.Answers.{Called, Took};
@@ -70,7 +70,7 @@ pub struct Reporting {
 
 // START with the store of a session.
 pub fn address_on(session: Session, values: Values) -> Session
-    ensures { λ r. ⌜ Called (START (values .value) (values .bit) (values .at)) (session .chip) (session .store) (r .answer) (r .chip) (r .store) ⌝ }
+    ensures { λ r. ⌜ Called (Start (values .value) (values .bit) (values .at)) (session .chip) (session .store) (r .answer) (r .chip) (r .store) ⌝ }
 {
     let mut chip = session.chip;
     let mut store = session.store;
@@ -84,7 +84,7 @@ pub fn address_on(session: Session, values: Values) -> Session
 
 // WRITE with the store of a session.
 pub fn write_on(session: Session, values: Values) -> Session
-    ensures { λ r. ⌜ Called (WRITE (values .value) (values .at)) (session .chip) (session .store) (r .answer) (r .chip) (r .store) ⌝ }
+    ensures { λ r. ⌜ Called (Write (values .value) (values .at)) (session .chip) (session .store) (r .answer) (r .chip) (r .store) ⌝ }
 {
     let mut chip = session.chip;
     let mut store = session.store;
@@ -98,7 +98,7 @@ pub fn write_on(session: Session, values: Values) -> Session
 
 // READ with the store of a session.
 pub fn read_on(session: Session, values: Values) -> Session
-    ensures { λ r. ⌜ Called (READ (values .bit) (values .at)) (session .chip) (session .store) (r .answer) (r .chip) (r .store) ⌝ }
+    ensures { λ r. ⌜ Called (Read (values .bit) (values .at)) (session .chip) (session .store) (r .answer) (r .chip) (r .store) ⌝ }
 {
     let mut chip = session.chip;
     let mut store = session.store;
@@ -112,7 +112,7 @@ pub fn read_on(session: Session, values: Values) -> Session
 
 // STOP with the store of a session.
 pub fn stop_on(session: Session, values: Values) -> Session
-    ensures { λ r. ⌜ Called (STOP (values .at)) (session .chip) (session .store) (r .answer) (r .chip) (r .store) ⌝ }
+    ensures { λ r. ⌜ Called (Stop (values .at)) (session .chip) (session .store) (r .answer) (r .chip) (r .store) ⌝ }
 {
     let mut chip = session.chip;
     let mut store = session.store;
@@ -126,7 +126,7 @@ pub fn stop_on(session: Session, values: Values) -> Session
 
 // WRITE with a store of 255 records.
 pub fn write_short(short: ShortSession, values: Values) -> ShortSession
-    ensures { λ r. ⌜ Called (WRITE (values .value) (values .at)) (short .chip) (short .store) (r .answer) (r .chip) (r .store) ⌝ }
+    ensures { λ r. ⌜ Called (Write (values .value) (values .at)) (short .chip) (short .store) (r .answer) (r .chip) (r .store) ⌝ }
 {
     let mut chip = short.chip;
     let mut store = short.store;

@@ -9,7 +9,7 @@ use Rattle.walking.proofs.Extras.{Extra, number}
 use Rattle.walking.proofs.Drive.{Makes, Claims, Shown}
 use Rattle.diagnostics.specs.Reports.{report}
 use Rattle.diagnostics.specs.Lent.{ReportedTo, ReportedOn}
-use Rattle.diagnostics.specs.declared.Outcome.{Outcome}
+use Rattle.diagnostics.specs.declared.ReportOutcome.{ReportOutcome}
 use Rattle.diagnostics.proofs.Rows.{diagnostic, diagnostic-data}
 use Rattle.diagnostics.proofs.Stores.{write-within, writes, leaves}
 use Rattle.diagnostics.proofs.Diagnostics as C
@@ -18,8 +18,8 @@ use Rattle.diagnostics.proofs.ReportAnswer as N
 use Rattle.diagnostics.proofs.ReportAnswer.Laws as N′
 use Rattle.diagnostics.proofs.I2cDiagnosticKind as K
 use Rattle.diagnostics.proofs.I2cDiagnosticKind.Laws as K′
-use Rattle.diagnostics.proofs.Outcome as O
-use Rattle.diagnostics.proofs.Outcome.Laws as O′
+use Rattle.diagnostics.proofs.ReportOutcome as O
+use Rattle.diagnostics.proofs.ReportOutcome.Laws as O′
 
 abbrev pub counts-data : Data C.the-row
 counts-data = of-struct C.the-type C′.the-laws C′.the-plain C′.the-copy
@@ -38,7 +38,7 @@ outcome-data = of-struct O.the-type O′.the-laws O′.the-plain O′.the-copy
 
 abbrev pub outcome : Outcomes counts answer diagnostic
 outcome = record {
-  Denot = Outcome;
+  Denot = ReportOutcome;
   name = O.struct .name;
   written = O.the-row .written;
   reaches = O.the-row .reaches;

@@ -13,7 +13,7 @@ use Rattle.diagnostics.specs.declared.I2cDiagnostic.{I2cDiagnostic}
 use Rattle.diagnostics.specs.declared.Diagnostics.{Diagnostics}
 use Rattle.diagnostics.specs.declared.ReportAnswer.{ReportAnswer}
 use Rattle.diagnostics.specs.declared.ReportAnswer.the-variants.{Done, NotSound, StoreLength}
-use Rattle.diagnostics.specs.declared.Outcome.{Outcome}
+use Rattle.diagnostics.specs.declared.ReportOutcome.{ReportOutcome}
 
 abbrev pub reportNumbered : ReportAnswer → Numbered (Unit {0})
 reportNumbered Done = accepted tt
@@ -45,5 +45,5 @@ pub record OnStores (len : ℕ) (w : Bool) (i : ℕ) (d : I2cDiagnostic) (P : Li
   pub within : w ≡ true → i < len
 
 -- a report by value, with a store of len records
-abbrev pub ReportedOn : Diagnostics → ℕ → I2cDiagnostic → Outcome → Type 0
+abbrev pub ReportedOn : Diagnostics → ℕ → I2cDiagnostic → ReportOutcome → Type 0
 ReportedOn n len d r = OnStores len (r .write) (r .slot) (r .diagnostic) (λ s s′. ReportedTo n s d (r .answer) (r .counts) s′)

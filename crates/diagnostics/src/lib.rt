@@ -48,7 +48,7 @@ pub enum ReportAnswer {
 }
 
 // What a report leaves of the counts, its answer, and the record with its place in the store, if it writes one.
-struct Outcome {
+struct ReportOutcome {
     counts: Diagnostics,
     answer: ReportAnswer,
     write: bool,
@@ -90,7 +90,7 @@ pub fn report(
 }
 
 // A report by value, into a store of `len` records.
-fn reported(counts: Diagnostics, len: usize, kind: I2cDiagnosticKind, at: u64) -> Outcome
+fn reported(counts: Diagnostics, len: usize, kind: I2cDiagnosticKind, at: u64) -> ReportOutcome
     ensures { λ r. ⌜ ReportedOn counts len (reportOf at kind) r ⌝ }
 {
     let diagnostic = I2cDiagnostic {
@@ -105,7 +105,7 @@ fn reported(counts: Diagnostics, len: usize, kind: I2cDiagnosticKind, at: u64) -
         return refused(counts, ReportAnswer::StoreLength, diagnostic);
     }
     let slot = counts.waiting;
-    Outcome {
+    ReportOutcome {
         counts: one_more(counts),
         answer: ReportAnswer::Done,
         write: slot < MAX_DIAGNOSTICS,
@@ -115,10 +115,10 @@ fn reported(counts: Diagnostics, len: usize, kind: I2cDiagnosticKind, at: u64) -
 }
 
 // A refusal leaves the counts and writes nothing.
-fn refused(counts: Diagnostics, answer: ReportAnswer, diagnostic: I2cDiagnostic) -> Outcome
+fn refused(counts: Diagnostics, answer: ReportAnswer, diagnostic: I2cDiagnostic) -> ReportOutcome
     ensures { λ r. ⌜ r ≡ record { counts = counts; answer = answer; write = false; slot = 0; diagnostic = diagnostic } ⌝ }
 {
-    Outcome {
+    ReportOutcome {
         counts,
         answer,
         write: false,

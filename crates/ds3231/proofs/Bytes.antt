@@ -72,8 +72,8 @@ pub weekday-in : (m : Meaning) → MeaningIn m → (w : ℕ) → InWeek w → In
 weekday-in undefined i w h = h
 weekday-in (sets r n flag) i w h = by-register InWeek r 3 (i .weekday) h
 
-pub noted-in : (m : Meaning) → MeaningIn m → (t : ℕ) (p : PendingTime) → PendingIn p → PendingIn (noted m t p)
-noted-in m i t p h =
+pub noted-in : (m : Meaning) → MeaningIn m → (p : PendingTime) → PendingIn p → PendingIn (noted m p)
+noted-in m i p h =
     let w = weekday-in m i (p .weekday) (h .week-from, h .week-to) in
     record { time = changed-in m i (p .time) (h .time); week-from = w .0; week-to = w .1 }
 

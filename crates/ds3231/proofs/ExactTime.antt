@@ -16,15 +16,18 @@ use Rattle.calendar.specs.Stated.{InRange, checked, timeOf}
 use Rattle.calendar.proofs.Laws.{accepted-in-range, seconds-of-time, weekday-formula}
 use Rattle.diagnostics.specs.declared.I2cDiagnostic.{I2cDiagnostic}
 use Rattle.ds3231.specs.Clock.{secondsAt, offsetFor}
-use Rattle.ds3231.specs.Timing.{shownAt, latch, pointed, inPhase, written, hasRead}
+use Rattle.ds3231.specs.Timing.{shownAt, latch, pointed, inPhase}
 use Rattle.ds3231.specs.Registers.{otherByte}
-use Rattle.ds3231.specs.Calls.{inQuarters, sound, timingOn, chipOn, checkedQuarters, powerOn, registerAnswer, Event, START, WRITE, READ, STOP, byte, readReply, step, stepChip, Call, bus, taking, lentStore, tooShort, verdict, chipBy, chipAfter, replyBy, answer}
+use Rattle.ds3231.specs.Calls.{inQuarters, sound, timingOn, chipOn, checkedQuarters, powerOn, registerAnswer, written, hasRead, step, stepChip, replied, Call, bus, taking, lentStore, tooShort, verdict, chipBy, chipAfter, replyBy, answer}
 use Rattle.ds3231.specs.Model.{reads, Model, wrapsIn, wraps, fed, modelOn}
 use Rattle.ds3231.specs.Exact.{chipAfterAll, eventsBy, events, fullyLent, modelAfter, Mark, markWith, markBy, modelBy, markAfter, instant, NeverFall, lastInstant, chip, model, mark, ReadsTime, Holds, ExactTime}
 use Rattle.ds3231.specs.declared.Phase.{Phase}
 use Rattle.ds3231.specs.declared.Phase.the-variants.{Released, Pointer, Writing, Reading, Ignoring}
 use Rattle.ds3231.specs.declared.Timing.{Timing}
 use Rattle.ds3231.specs.declared.Ds3231.{Ds3231}
+use Rattle.ds3231.specs.declared.Event.{Event}
+use Rattle.ds3231.specs.declared.Event.the-variants.{Start, Write, Read, Stop}
+use Rattle.ds3231.specs.declared.Reply.the-variants.{Byte}
 use Rattle.ds3231.specs.declared.Ds3231Config.{Ds3231Config}
 use Rattle.ds3231.proofs.Facts.{Sound, sound-test}
 use Rattle.ds3231.proofs.Sounds.{call-sound, after-sound, register-byte, on-sound}
@@ -64,28 +67,28 @@ feed-run (taking s o ∷ ks) c h =
 abbrev Shown : Timing → Mark → Type 0
 Shown c l = c .latched ≡ shownAt (l .chip .timing) (l .at)
 
-write-latch : (p : Phase) (b t : ℕ) (c : Timing) → written p b t c .latched ≡ c .latched
+write-latch : (p : Phase) (b t : ℕ) (c : Ds3231) → written p b t c .timing .latched ≡ c .timing .latched
 write-latch Released b t c = refl
 write-latch Reading b t c = refl
 write-latch Ignoring b t c = refl
 write-latch Pointer b t c = by (leb b 0x12)
   where
-    by : (e : Bool) → (if e then inPhase Writing (pointed b c) else inPhase Ignoring c) .latched ≡ c .latched
+    by : (e : Bool) → (if e then inPhase Writing (pointed b (c .timing)) else inPhase Ignoring (c .timing)) .latched ≡ c .timing .latched
     by true = refl
     by false = refl
 write-latch Writing b t c = refl
 
 -- a read latches where it wraps, as the model tells
-read-latch : (p : Phase) (t : ℕ) (c : Timing) (l n : Mark) → n .chip .timing ≡ hasRead p t c → n .at ≡ t → Shown c l
-    → Shown (hasRead p t c) (if wrapsIn (stageOf p) (c .pointer) then n else l)
+read-latch : (p : Phase) (t : ℕ) (c : Ds3231) (l n : Mark) → n .chip .timing ≡ hasRead p t c .timing → n .at ≡ t → Shown (c .timing) l
+    → Shown (hasRead p t c .timing) (if wrapsIn (stageOf p) (c .timing .pointer) then n else l)
 read-latch Released t c l n e f w = w
 read-latch Pointer t c l n e f w = w
 read-latch Writing t c l n e f w = w
 read-latch Ignoring t c l n e f w = w
-read-latch Reading t c l n e f w = by (leb 0x12 (c .pointer)) e
+read-latch Reading t c l n e f w = by (leb 0x12 (c .timing .pointer)) e
   where
-    by : (b : Bool) → n .chip .timing ≡ (if b then latch t (pointed 0 c) else pointed (c .pointer + 1) c)
-        → Shown (if b then latch t (pointed 0 c) else pointed (c .pointer + 1) c) (if b then n else l)
+    by : (b : Bool) → n .chip .timing ≡ (if b then latch t (pointed 0 (c .timing)) else pointed (c .timing .pointer + 1) (c .timing))
+        → Shown (if b then latch t (pointed 0 (c .timing)) else pointed (c .timing .pointer + 1) (c .timing)) (if b then n else l)
     by true q = ap₂ shownAt (sym q) (sym f)
     by false q = w
 
@@ -98,23 +101,23 @@ pub record Stands (c : Ds3231) (m : Model) (l : Mark) : Type 0 where
 -- an event
 marked : (e : Event) (c : Ds3231) (m : Model) (l : Mark) → Place (c .timing) m → Shown (c .timing) l
     → Shown (step e c .timing) (markWith e m (stepChip (step e c) c) l)
-marked (START a r t) c m l p w = refl
-marked (WRITE b t) c m l p w = write-latch (c .timing .phase) b t (c .timing) ∙ w
-marked (READ k t) c m l p w =
-    subst (λ (x : Bool). Shown (hasRead (c .timing .phase) t (c .timing)) (if x then record { chip = stepChip (step (READ k t) c) c; at = t } else l))
+marked (Start a r t) c m l p w = refl
+marked (Write b t) c m l p w = write-latch (c .timing .phase) b t c ∙ w
+marked (Read k t) c m l p w =
+    subst (λ (x : Bool). Shown (hasRead (c .timing .phase) t c .timing) (if x then record { chip = stepChip (step (Read k t) c) c; at = t } else l))
     (sym (ap₂ wrapsIn (p .stage) (p .pointer)))
-    (read-latch (c .timing .phase) t (c .timing) l (record { chip = stepChip (step (READ k t) c) c; at = t }) refl refl w)
-marked (STOP t) c m l p w = w
+    (read-latch (c .timing .phase) t c l (record { chip = stepChip (step (Read k t) c) c; at = t }) refl refl w)
+marked (Stop t) c m l p w = w
 
 mark-sound : (e : Event) (c : Ds3231) (m : Model) (l : Mark) → Sound (stepChip (step e c) c) → Sound (l .chip) → Sound (markWith e m (stepChip (step e c) c) l .chip)
-mark-sound (START a r t) c m l h w = h
-mark-sound (WRITE b t) c m l h w = w
-mark-sound (READ k t) c m l h w = by (wraps m)
+mark-sound (Start a r t) c m l h w = h
+mark-sound (Write b t) c m l h w = w
+mark-sound (Read k t) c m l h w = by (wraps m)
   where
-    by : (x : Bool) → Sound ((if x then record { chip = stepChip (step (READ k t) c) c; at = t } else l) .chip)
+    by : (x : Bool) → Sound ((if x then record { chip = stepChip (step (Read k t) c) c; at = t } else l) .chip)
     by true = h
     by false = w
-mark-sound (STOP t) c m l h w = w
+mark-sound (Stop t) c m l h w = w
 
 -- one call, allowed or refused, and then the rest
 stands-next : (v : Numbered (Unit {0})) (k : Call) (ks : List Call) (c : Ds3231) (m : Model) (l : Mark) → Stands c m l
@@ -212,12 +215,12 @@ power-on-sound f c₀ e =
 -- ---- the claim
 
 -- what a READ answers, once the chip is known to be addressed for reading and at a time register
-read-answer : (s : List I2cDiagnostic) (k : Bool) (t : ℕ) (c : Ds3231) → verdict (bus s (READ k t)) c ≡ accepted tt → c .timing .phase ≡ Reading → c .timing .pointer ≤ 0x06
-    → answer (bus s (READ k t)) c ≡ accepted (byte (getD (c .timing .latched) (c .timing .pointer) 0))
+read-answer : (s : List I2cDiagnostic) (k : Bool) (t : ℕ) (c : Ds3231) → verdict (bus s (Read k t)) c ≡ accepted tt → c .timing .phase ≡ Reading → c .timing .pointer ≤ 0x06
+    → answer (bus s (Read k t)) c ≡ accepted (replied (Byte (getD (c .timing .latched) (c .timing .pointer) 0)))
 read-answer s k t c v p r =
-    ap (λ (x : Numbered (Unit {0})). andThen x (accepted (replyBy (bus s (READ k t)) c))) v
-    ∙ ap (λ (x : Phase). accepted (readReply x t c)) p
-    ∙ ap (λ (e : Bool). accepted (byte (if e then getD (c .timing .latched) (c .timing .pointer) 0 else otherByte (c .registers) (c .timing .pointer) t))) (le-leb _ _ r)
+    ap (λ (x : Numbered (Unit {0})). andThen x (accepted (replyBy (bus s (Read k t)) c))) v
+    ∙ ap (λ (x : Phase). accepted (replied (hasRead x t c .reply))) p
+    ∙ ap (λ (e : Bool). accepted (replied (Byte (if e then getD (c .timing .latched) (c .timing .pointer) 0 else otherByte (c .registers) (c .timing .pointer) t)))) (le-leb _ _ r)
 
 -- what `register` answers at a time register of a sound chip
 register-answer : (c : Ds3231) (r t : ℕ) → Sound c → r ≤ 0x06 → registerAnswer c r t ≡ accepted (getD (shownAt (c .timing) t) r 0)
@@ -243,7 +246,7 @@ module _ (f : Ds3231Config) (v : InRange (f .start)) (q : inQuarters (f .«tempe
 
   -- what a READ of the time answers
   answers : (before : List Call) (s : List I2cDiagnostic) (k : Bool) (t : ℕ) → ReadsTime f c₀ before s k t
-      → answer (bus s (READ k t)) (chip f c₀ before) ≡ accepted (byte (getD (chip f c₀ before .timing .latched) (chip f c₀ before .timing .pointer) 0))
+      → answer (bus s (Read k t)) (chip f c₀ before) ≡ accepted (replied (Byte (getD (chip f c₀ before .timing .latched) (chip f c₀ before .timing .pointer) 0)))
   answers before s k t r =
       let w = stands before in
       read-answer s k t (chip f c₀ before) (r .not-refused) (reading-phase (chip f c₀ before .timing .phase) (sym (w .place .stage) ∙ r .reading))
@@ -268,8 +271,8 @@ module _ (f : Ds3231Config) (v : InRange (f .start)) (q : inQuarters (f .«tempe
                   ∙ ap₂ (λ (l : List ℕ) (x : ℕ). accepted (getD l x 0)) (sym (w .shown)) (w .place .pointer),
             );
         answers-model = λ h before later s k t e r.
-            let w = follows before (never-before calls before (bus s (READ k t) ∷ later) e h) in
-            answers before s k t r ∙ ap₂ (λ (l : List ℕ) (x : ℕ). accepted (byte (getD l x 0))) (sym (w .latched)) (sym (w .pointer));
+            let w = follows before (never-before calls before (bus s (Read k t) ∷ later) e h) in
+            answers before s k t r ∙ ap₂ (λ (l : List ℕ) (x : ℕ). accepted (replied (Byte (getD l x 0)))) (sym (w .latched)) (sym (w .pointer));
         latches = λ h. sym (follows calls h .latched);
         shows = λ h t g.
             let k = chip f c₀ calls .timing .clock in

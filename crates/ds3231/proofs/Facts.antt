@@ -6,7 +6,6 @@ use mathlib.Core.Path.{_≡_, refl}
 use borrow.Author.Tests.{leb-true, ltb-true, eqb-true, le-leb, lt-ltb, eq-eqb}
 use lib.Dec.{leb, ltb, eqb}
 use lib.Bits.{bitAnd}
-use Rattle.computed.specs.Choice.{if_then_else_}
 use Rattle.computed.proofs.Choice.{both, both-true}
 use Rattle.calendar.specs.declared.DateTime.{DateTime}
 use Rattle.ds3231.specs.Numbers.{range, day}

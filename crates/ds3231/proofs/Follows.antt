@@ -15,15 +15,15 @@ use Rattle.calendar.proofs.Laws.{nearest-same, nearest-past, month-bounds}
 use Rattle.calendar.specs.declared.DateTime.{DateTime}
 use Rattle.fields.specs.Table.{Meaning, undefined, sets, meaning, timeBytes}
 use Rattle.ds3231.specs.Numbers.{nanos, range, day}
-use Rattle.ds3231.specs.Clock.{secondsAt, timeAt, weekdayAt, offsetFor}
-use Rattle.ds3231.specs.Timing.{isDefined, changedTime, changedWeekday, changedMode, changedSeconds, opened, noted, baseFor, clockFrom, latch, inPhase, pointed, commit, accept, nextPointer, addressed, written, hasRead}
-use Rattle.ds3231.specs.Calls.{Event, START, WRITE, READ, STOP, step}
+use Rattle.ds3231.specs.Clock.{secondsAt, timeAt, weekdayAt, secondStart, offsetFor}
+use Rattle.ds3231.specs.Timing.{isDefined, changedTime, changedWeekday, changedMode, setsSeconds, opened, noted, clockFrom, latch, inPhase, pointed, commit, accept, nextPointer, addressed}
+use Rattle.ds3231.specs.Calls.{written, hasRead, step}
 use Rattle.ds3231.specs.Exact.{instant}
 use Rattle.ds3231.specs.declared.Ds3231.{Ds3231}
+use Rattle.ds3231.specs.declared.Event.{Event}
+use Rattle.ds3231.specs.declared.Event.the-variants.{Start, Write, Read, Stop}
 use Rattle.ds3231.specs.Model.{Stage, unaddressed, writes, drops, Accepted, Model, exact, wholeSecond, exactWeekday, dateWith, dateBy, clamped, weekdayWith, weekdayBy, offsetFrom, offsetWith, Instant, never, at, secondsWith, lastSeconds, holdsAt, partSecond, dateSet, closedBy, closed, latching, standing, pointing, keeps, modeWith, keeping, movedPointer, writeIn, readIn, fed}
 use Rattle.ds3231.specs.declared.Clock.{Clock}
-use Rattle.ds3231.specs.declared.SecondsAt.{SecondsAt}
-use Rattle.ds3231.specs.declared.SecondsAt.the-variants.{NotWritten, Written}
 use Rattle.ds3231.specs.declared.PendingTime.{PendingTime}
 use Rattle.ds3231.specs.declared.Phase.{Phase}
 use Rattle.ds3231.specs.declared.Phase.the-variants.{Released, Pointer, Writing, Reading, Ignoring}
@@ -72,16 +72,16 @@ mode-same : (m : Meaning) (x : Bool) → modeWith m x ≡ changedMode m x
 mode-same undefined x = refl
 mode-same (sets r n flag) x = refl
 
--- the instant of the last seconds byte
-abbrev written-at : Instant → SecondsAt
-written-at never = NotWritten
-written-at (at t) = Written t
+-- the instant at which a second of the pending time begins: that of the last seconds byte, or the start of the second of the first byte
+abbrev beginsAt : Clock → ℕ → Instant → ℕ
+beginsAt k first never = secondStart k first
+beginsAt k first (at t) = t
 
-seconds-same : (m : Meaning) (t : ℕ) (i : Instant) → written-at (secondsWith m t i) ≡ changedSeconds m t (written-at i)
-seconds-same undefined t i = refl
-seconds-same (sets r n flag) t i = by (eqb r 0)
+seconds-same : (m : Meaning) (t : ℕ) (k : Clock) (first : ℕ) (i : Instant) → beginsAt k first (secondsWith m t i) ≡ (if setsSeconds m then t else beginsAt k first i)
+seconds-same undefined t k first i = refl
+seconds-same (sets r n flag) t k first i = by (eqb r 0)
   where
-    by : (e : Bool) → written-at (if e then at t else i) ≡ (if e then Written t else written-at i)
+    by : (e : Bool) → beginsAt k first (if e then at t else i) ≡ (if e then t else beginsAt k first i)
     by true = refl
     by false = refl
 
@@ -127,12 +127,16 @@ offset-gives d w h = omega arith
 
 -- the pending time that accepted bytes make on a clock
 abbrev gathered : List Accepted → Clock → ℕ → PendingTime
-gathered l k first = record { time = dateBy l (timeAt k first); weekday = weekdayBy l (weekdayAt k first); «first_at» = first; «seconds_at» = written-at (lastSeconds l never) }
+gathered l k first = record { time = dateBy l (timeAt k first); weekday = weekdayBy l (weekdayAt k first) }
 
--- a flag and a pending time stand for the accepted bytes
-abbrev Gathers : List Accepted → Bool → PendingTime → Clock → Type 0
-Gathers [] q p k = q ≡ false
-Gathers (a ∷ l) q p k = (q ≡ true) × (p ≡ gathered (a ∷ l) k (a .at))
+-- and where its second begins
+abbrev begun : List Accepted → Clock → ℕ → ℕ
+begun l k first = beginsAt k first (lastSeconds l never)
+
+-- a flag, a pending time and its instant stand for the accepted bytes
+abbrev Gathers : List Accepted → Bool → PendingTime → ℕ → Clock → Type 0
+Gathers [] q p b k = q ≡ false
+Gathers (a ∷ l) q p b k = (q ≡ true) × (p ≡ gathered (a ∷ l) k (a .at)) × (b ≡ begun (a ∷ l) k (a .at))
 
 -- each accepted byte's instant is from lo to hi
 abbrev Within : ℕ → ℕ → List Accepted → Type 0
@@ -145,7 +149,7 @@ pub record Follows (c : Timing) (m : Model) (last : ℕ) : Type 0 where
   pub mode : m .twelve ≡ c .«twelve_hour»
   pub latched : m .latched ≡ c .latched
   pub clock : FollowsClock (c .clock) m last
-  pub gathers : Gathers (m .accepted) (c .«is_pending») (c .pending) (c .clock)
+  pub gathers : Gathers (m .accepted) (c .«is_pending») (c .pending) (c .«pending_at») (c .clock)
   pub within : Within (m .since) last (m .accepted)
 
 -- one more byte
@@ -160,9 +164,10 @@ weekday-more : (l : List Accepted) (a : Accepted) (w : ℕ) → changedWeekday (
 weekday-more [] a w = sym (weekday-same (meaningOf a) w)
 weekday-more (b ∷ l) a w = weekday-more l a (weekdayWith (meaningOf b) w)
 
-seconds-more : (l : List Accepted) (a : Accepted) (i : Instant) → changedSeconds (meaningOf a) (a .at) (written-at (lastSeconds l i)) ≡ written-at (lastSeconds (l ++ (a ∷ [])) i)
-seconds-more [] a i = sym (seconds-same (meaningOf a) (a .at) i)
-seconds-more (b ∷ l) a i = seconds-more l a (secondsWith (meaningOf b) (b .at) i)
+seconds-more : (l : List Accepted) (a : Accepted) (k : Clock) (first : ℕ) (i : Instant)
+    → (if setsSeconds (meaningOf a) then a .at else beginsAt k first (lastSeconds l i)) ≡ beginsAt k first (lastSeconds (l ++ (a ∷ [])) i)
+seconds-more [] a k first i = sym (seconds-same (meaningOf a) (a .at) k first i)
+seconds-more (b ∷ l) a k first i = seconds-more l a k first (secondsWith (meaningOf b) (b .at) i)
 
 within-wider : (l : List Accepted) (lo hi to : ℕ) → hi ≤ to → Within lo hi l → Within lo to l
 within-wider [] lo hi to h w = tt
@@ -172,19 +177,21 @@ within-more : (l : List Accepted) (lo hi : ℕ) (a : Accepted) → lo ≤ a .at 
 within-more [] lo hi a h k w = (h, k, tt)
 within-more (b ∷ l) lo hi a h k w = (w .0, w .1, within-more l lo hi a h k (w .2))
 
-noted-more : (l : List Accepted) (a : Accepted) (k : Clock) (first : ℕ) → noted (meaningOf a) (a .at) (gathered l k first) ≡ gathered (l ++ (a ∷ [])) k first
-noted-more l a k first = λ j. record {
-  time = date-more l a (timeAt k first) j;
-  weekday = weekday-more l a (weekdayAt k first) j;
-  «first_at» = first;
-  «seconds_at» = seconds-more l a never j;
-}
+noted-more : (l : List Accepted) (a : Accepted) (k : Clock) (first : ℕ) → noted (meaningOf a) (gathered l k first) ≡ gathered (l ++ (a ∷ [])) k first
+noted-more l a k first = λ j. record { time = date-more l a (timeAt k first) j; weekday = weekday-more l a (weekdayAt k first) j }
 
-gathers-more : (l : List Accepted) (a : Accepted) (q : Bool) (p : PendingTime) (k : Clock) → Gathers l q p k
-    → Gathers (l ++ (a ∷ [])) true (noted (meaningOf a) (a .at) (if q then p else opened k (a .at))) k
-gathers-more [] a q p k g = (refl, ap (λ (x : Bool). noted (meaningOf a) (a .at) (if x then p else opened k (a .at))) g ∙ noted-more [] a k (a .at))
-gathers-more (b ∷ l) a q p k g =
-    (refl, ap₂ (λ (x : Bool) (y : PendingTime). noted (meaningOf a) (a .at) (if x then y else opened k (a .at))) (g .0) (g .1) ∙ noted-more (b ∷ l) a k (b .at))
+gathers-more : (l : List Accepted) (a : Accepted) (q : Bool) (p : PendingTime) (b : ℕ) (k : Clock) → Gathers l q p b k
+    → Gathers (l ++ (a ∷ [])) true (noted (meaningOf a) (if q then p else opened k (a .at))) (if setsSeconds (meaningOf a) then a .at else if q then b else secondStart k (a .at)) k
+gathers-more [] a q p b k g = (
+  refl,
+  ap (λ (x : Bool). noted (meaningOf a) (if x then p else opened k (a .at))) g ∙ noted-more [] a k (a .at),
+  ap (λ (x : Bool). if setsSeconds (meaningOf a) then a .at else if x then b else secondStart k (a .at)) g ∙ seconds-more [] a k (a .at) never,
+)
+gathers-more (e ∷ l) a q p b k g = (
+  refl,
+  ap₂ (λ (x : Bool) (y : PendingTime). noted (meaningOf a) (if x then y else opened k (a .at))) (g .0) (g .1) ∙ noted-more (e ∷ l) a k (e .at),
+  ap₂ (λ (x : Bool) (y : ℕ). if setsSeconds (meaningOf a) then a .at else if x then y else secondStart k (a .at)) (g .0) (g .2) ∙ seconds-more (e ∷ l) a k (e .at) never,
+)
 
 -- the last seconds byte's instant is one of them
 abbrev UpTo : ℕ → Instant → Type 0
@@ -212,11 +219,11 @@ weekdays (a ∷ l) w h = weekdays l (weekdayWith (meaningOf a) w) (subst InWeek 
 
 module _ (k : Clock) (m : Model) (last : ℕ) (w : FollowsClock k m last) (first : ℕ) (h : m .since ≤ first) where
   -- the part second, and where the date holds, by the instant of the last seconds byte
-  part-held : (i : Instant) → partSecond i first m ≡ holdsAt i first - baseFor k first (written-at i)
+  part-held : (i : Instant) → partSecond i first m ≡ holdsAt i first - beginsAt k first i
   part-held never = part-is k m last w first h ∙ omega arith
   part-held (at t) = omega arith
 
-  base-held : (i : Instant) → baseFor k first (written-at i) ≤ holdsAt i first
+  base-held : (i : Instant) → beginsAt k first i ≤ holdsAt i first
   base-held never = omega arith
   base-held (at t) = le-refl t
 
@@ -226,7 +233,7 @@ module _ (k : Clock) (m : Model) (last : ℕ) (w : FollowsClock k m last) (first
 
 clock-closed : (k : Clock) (m : Model) (last : ℕ) → FollowsClock k m last → (a : Accepted) (l : List Accepted) → Within (m .since) last (a ∷ l)
     → TimeIn (dateBy (a ∷ l) (timeAt k (a .at)))
-    → FollowsClock (clockFrom k (gathered (a ∷ l) k (a .at))) (closedBy (a ∷ l) m) last
+    → FollowsClock (clockFrom (gathered (a ∷ l) k (a .at)) (begun (a ∷ l) k (a .at))) (closedBy (a ∷ l) m) last
 clock-closed k m last w a l i v =
     let d = dateBy (a ∷ l) (timeAt k (a .at)) in
     let s : dateSet (a ∷ l) (a .at) m ≡ nearest d = ap (λ (n : ℕ). clamped (dateBy (a ∷ l) (timeOf n))) (whole-is k m last w (a .at) (i .0)) ∙ sym (clamp-same d v) in
@@ -242,12 +249,12 @@ clock-closed k m last w a l i v =
 
 -- the clock of a commit
 commit-none : (c : Timing) → c .«is_pending» ≡ false → commit c .clock ≡ c .clock
-commit-none c e = ap (λ (b : Bool). if b then clockFrom (c .clock) (c .pending) else c .clock) e
+commit-none c e = ap (λ (b : Bool). if b then clockFrom (c .pending) (c .«pending_at») else c .clock) e
 
-commit-some : (c : Timing) (p : PendingTime) → c .«is_pending» ≡ true → c .pending ≡ p → commit c .clock ≡ clockFrom (c .clock) p
-commit-some c p e q = ap₂ (λ (b : Bool) (x : PendingTime). if b then clockFrom (c .clock) x else c .clock) e q
+commit-some : (c : Timing) (p : PendingTime) (b : ℕ) → c .«is_pending» ≡ true → c .pending ≡ p → c .«pending_at» ≡ b → commit c .clock ≡ clockFrom p b
+commit-some c p b e q r = λ j. if e j then clockFrom (q j) (r j) else c .clock
 
-follow-close : (c : Timing) (m : Model) (last : ℕ) → TimingIn c → Follows c m last → (l : List Accepted) → m .accepted ≡ l → Gathers l (c .«is_pending») (c .pending) (c .clock) → Within (m .since) last l
+follow-close : (c : Timing) (m : Model) (last : ℕ) → TimingIn c → Follows c m last → (l : List Accepted) → m .accepted ≡ l → Gathers l (c .«is_pending») (c .pending) (c .«pending_at») (c .clock) → Within (m .since) last l
     → Follows (commit c) (closedBy l m) last
 follow-close c m last o w [] e g i =
     record {
@@ -256,7 +263,7 @@ follow-close c m last o w [] e g i =
       mode = w .mode;
       latched = w .latched;
       clock = subst (λ (k : Clock). FollowsClock k m last) (sym (commit-none c g)) (w .clock);
-      gathers = subst (λ (x : List Accepted). Gathers x false (c .pending) (commit c .clock)) (sym e) refl;
+      gathers = subst (λ (x : List Accepted). Gathers x false (c .pending) (c .«pending_at») (commit c .clock)) (sym e) refl;
       within = w .within;
     }
 follow-close c m last o w (a ∷ l) e g i =
@@ -266,7 +273,7 @@ follow-close c m last o w (a ∷ l) e g i =
       mode = w .mode;
       latched = w .latched;
       clock =
-          subst (λ (k : Clock). FollowsClock k (closedBy (a ∷ l) m) last) (sym (commit-some c (gathered (a ∷ l) (c .clock) (a .at)) (g .0) (g .1)))
+          subst (λ (k : Clock). FollowsClock k (closedBy (a ∷ l) m) last) (sym (commit-some c (gathered (a ∷ l) (c .clock) (a .at)) (begun (a ∷ l) (c .clock) (a .at)) (g .0) (g .1) (g .2)))
           (clock-closed (c .clock) m last (w .clock) a l i (subst (λ (p : PendingTime). TimeIn (p .time)) (g .1) (o .pending (g .0) .time)));
       gathers = refl;
       within = tt;
@@ -331,11 +338,12 @@ follow-point q r e c m last w =
     }
 
 -- a byte at a register, accepted or not
-gathers-by : (m : Meaning) (a : Accepted) → meaningOf a ≡ m → (l : List Accepted) (q : Bool) (p : PendingTime) (k : Clock) → Gathers l q p k
-    → Gathers (keeps m a l) (isDefined m || q) (if isDefined m then noted m (a .at) (if q then p else opened k (a .at)) else p) k
-gathers-by undefined a e l q p k g = g
-gathers-by (sets r n flag) a e l q p k g =
-    subst (λ (x : Meaning). Gathers (l ++ (a ∷ [])) true (noted x (a .at) (if q then p else opened k (a .at))) k) e (gathers-more l a q p k g)
+gathers-by : (m : Meaning) (a : Accepted) → meaningOf a ≡ m → (l : List Accepted) (q : Bool) (p : PendingTime) (b : ℕ) (k : Clock) → Gathers l q p b k
+    → Gathers (keeps m a l) (isDefined m || q) (if isDefined m then noted m (if q then p else opened k (a .at)) else p)
+    (if isDefined m then (if setsSeconds m then a .at else if q then b else secondStart k (a .at)) else b) k
+gathers-by undefined a e l q p b k g = g
+gathers-by (sets r n flag) a e l q p b k g =
+    subst (λ (x : Meaning). Gathers (l ++ (a ∷ [])) true (noted x (if q then p else opened k (a .at))) (if setsSeconds x then a .at else if q then b else secondStart k (a .at)) k) e (gathers-more l a q p b k g)
 
 within-by : (m : Meaning) (l : List Accepted) (lo hi : ℕ) (a : Accepted) → lo ≤ a .at → a .at ≤ hi → Within lo hi l → Within lo hi (keeps m a l)
 within-by undefined l lo hi a h k w = w
@@ -350,38 +358,42 @@ follow-accept r b t c m w =
       mode = mode-same (meaning r b) (m .twelve) ∙ ap (changedMode (meaning r b)) (w .mode);
       latched = w .latched;
       clock = clock-kept (c .clock) m (keeping r b t m) t refl refl refl (w .clock);
-      gathers = gathers-by (meaning r b) a refl (m .accepted) (c .«is_pending») (c .pending) (c .clock) (w .gathers);
+      gathers = gathers-by (meaning r b) a refl (m .accepted) (c .«is_pending») (c .pending) (c .«pending_at») (c .clock) (w .gathers);
       within = within-by (meaning r b) (m .accepted) (m .since) t a (w .clock .since) (le-refl t) (w .within);
     }
 
 -- ---- the events
 
-follow-write : (p : Phase) (b t : ℕ) (c : Timing) (m : Model) → Follows c m t → Follows (written p b t c) (writeIn (stageOf p) b t m) t
+follow-write : (p : Phase) (b t : ℕ) (c : Ds3231) (m : Model) → Follows (c .timing) m t → Follows (written p b t c .timing) (writeIn (stageOf p) b t m) t
 follow-write Released b t c m w = w
 follow-write Reading b t c m w = w
 follow-write Ignoring b t c m w = w
 follow-write Pointer b t c m w =
-    either (λ (x : Timing) (y : Model). Follows x y t) (leb b 0x12) {a = inPhase Writing (pointed b c)} {a′ = inPhase Ignoring c} {b = standing writes (pointing b m)} {b′ = standing drops m}
-    (follow-phase Writing writes refl (pointed b c) (pointing b m) t (follow-point b b refl c m t w)) (follow-phase Ignoring drops refl c m t w)
+    let k = c .timing in
+    either (λ (x : Timing) (y : Model). Follows x y t) (leb b 0x12) {a = inPhase Writing (pointed b k)} {a′ = inPhase Ignoring k} {b = standing writes (pointing b m)} {b′ = standing drops m}
+    (follow-phase Writing writes refl (pointed b k) (pointing b m) t (follow-point b b refl k m t w)) (follow-phase Ignoring drops refl k m t w)
 follow-write Writing b t c m w =
-    subst (λ (r : ℕ). Follows (written Writing b t c) (pointing (movedPointer r) (keeping r b t m)) t) (sym (w .pointer))
-    (follow-point (movedPointer (c .pointer)) (nextPointer (c .pointer)) (next-moved (c .pointer)) (accept (meaning (c .pointer) b) t c) (keeping (c .pointer) b t m) t (follow-accept (c .pointer) b t c m w))
+    let n = c .timing .pointer in
+    subst (λ (r : ℕ). Follows (written Writing b t c .timing) (pointing (movedPointer r) (keeping r b t m)) t) (sym (w .pointer))
+    (follow-point (movedPointer n) (nextPointer n) (next-moved n) (accept (meaning n b) t (c .timing)) (keeping n b t m) t (follow-accept n b t (c .timing) m w))
 
-follow-read : (p : Phase) (t : ℕ) (c : Timing) (m : Model) → Follows c m t → Follows (hasRead p t c) (readIn (stageOf p) t m) t
+follow-read : (p : Phase) (t : ℕ) (c : Ds3231) (m : Model) → Follows (c .timing) m t → Follows (hasRead p t c .timing) (readIn (stageOf p) t m) t
 follow-read Released t c m w = w
 follow-read Pointer t c m w = w
 follow-read Writing t c m w = w
 follow-read Ignoring t c m w = w
 follow-read Reading t c m w =
-    subst (λ (r : ℕ). Follows (hasRead Reading t c) (if leb 0x12 r then latching t (pointing 0 m) else pointing (r + 1) m) t) (sym (w .pointer))
-    (either (λ (x : Timing) (y : Model). Follows x y t) (leb 0x12 (c .pointer)) {a = latch t (pointed 0 c)} {a′ = pointed (c .pointer + 1) c} {b = latching t (pointing 0 m)} {b′ = pointing (c .pointer + 1) m}
-    (follow-latch (pointed 0 c) (pointing 0 m) t (follow-point 0 0 refl c m t w)) (follow-point _ (c .pointer + 1) refl c m t w))
+    let k = c .timing in
+    let n = c .timing .pointer in
+    subst (λ (r : ℕ). Follows (hasRead Reading t c .timing) (if leb 0x12 r then latching t (pointing 0 m) else pointing (r + 1) m) t) (sym (w .pointer))
+    (either (λ (x : Timing) (y : Model). Follows x y t) (leb 0x12 n) {a = latch t (pointed 0 k)} {a′ = pointed (n + 1) k} {b = latching t (pointing 0 m)} {b′ = pointing (n + 1) m}
+    (follow-latch (pointed 0 k) (pointing 0 m) t (follow-point 0 0 refl k m t w)) (follow-point _ (n + 1) refl k m t w))
 
 pub event-follows : (e : Event) (c : Ds3231) (m : Model) → TimingIn (c .timing) → Follows (c .timing) m (instant e) → Follows (step e c .timing) (fed e m) (instant e)
-event-follows (START a r t) c m o w =
+event-follows (Start a r t) c m o w =
     follow-phase (addressed a r) _ (stage-addressed a r) (latch t (commit (c .timing))) (latching t (closed m)) t (follow-latch (commit (c .timing)) (closed m) t (follow-commit (c .timing) m t o w))
-event-follows (WRITE b t) c m o w =
-    subst (λ (s : Stage). Follows (written (c .timing .phase) b t (c .timing)) (writeIn s b t m) t) (sym (w .stage)) (follow-write (c .timing .phase) b t (c .timing) m w)
-event-follows (READ k t) c m o w =
-    subst (λ (s : Stage). Follows (hasRead (c .timing .phase) t (c .timing)) (readIn s t m) t) (sym (w .stage)) (follow-read (c .timing .phase) t (c .timing) m w)
-event-follows (STOP t) c m o w = follow-phase Released unaddressed refl (commit (c .timing)) (closed m) t (follow-commit (c .timing) m t o w)
+event-follows (Write b t) c m o w =
+    subst (λ (s : Stage). Follows (written (c .timing .phase) b t c .timing) (writeIn s b t m) t) (sym (w .stage)) (follow-write (c .timing .phase) b t c m w)
+event-follows (Read k t) c m o w =
+    subst (λ (s : Stage). Follows (hasRead (c .timing .phase) t c .timing) (readIn s t m) t) (sym (w .stage)) (follow-read (c .timing .phase) t c m w)
+event-follows (Stop t) c m o w = follow-phase Released unaddressed refl (commit (c .timing)) (closed m) t (follow-commit (c .timing) m t o w)

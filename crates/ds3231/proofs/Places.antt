@@ -7,13 +7,15 @@ use mathlib.Core.Path.{_≡_, refl, sym, ap, _∙_, subst}
 use borrow.Author.Tests.{leb-true, leb-false, lt-ltb, le-ltb}
 use lib.Dec.{leb, ltb, eqb}
 use Rattle.computed.specs.Choice.{if_then_else_}
-use Rattle.ds3231.specs.Timing.{latch, inPhase, pointed, nextPointer, addressed, written, hasRead}
-use Rattle.ds3231.specs.Calls.{Event, START, WRITE, READ, STOP, step}
+use Rattle.ds3231.specs.Timing.{latch, inPhase, pointed, nextPointer, addressed}
+use Rattle.ds3231.specs.Calls.{written, hasRead, step}
 use Rattle.ds3231.specs.Model.{Stage, unaddressed, awaitsPointer, writes, drops, reads, Accepted, Model, closedBy, latching, standing, pointing, movedPointer, writeIn, readIn, addressedBy, fed}
 use Rattle.ds3231.specs.declared.Phase.{Phase}
 use Rattle.ds3231.specs.declared.Phase.the-variants.{Released, Pointer, Writing, Reading, Ignoring}
 use Rattle.ds3231.specs.declared.Timing.{Timing}
 use Rattle.ds3231.specs.declared.Ds3231.{Ds3231}
+use Rattle.ds3231.specs.declared.Event.{Event}
+use Rattle.ds3231.specs.declared.Event.the-variants.{Start, Write, Read, Stop}
 
 abbrev pub stageOf : Phase → Stage
 stageOf Released = unaddressed
@@ -55,29 +57,30 @@ pub closed-pointer : (l : List Accepted) (m : Model) → closedBy l m .pointer �
 closed-pointer [] m = refl
 closed-pointer (a ∷ l) m = refl
 
-write-place : (p : Phase) (b t : ℕ) (c : Timing) (m : Model) → p ≡ c .phase → Place c m → Place (written p b t c) (writeIn (stageOf p) b t m)
-write-place Released b t c m e w = w
-write-place Reading b t c m e w = w
-write-place Ignoring b t c m e w = w
-write-place Pointer b t c m e w =
-    either Place (leb b 0x12) {a = inPhase Writing (pointed b c)} {a′ = inPhase Ignoring c} {b = standing writes (pointing b m)} {b′ = standing drops m}
+write-place : (p : Phase) (b t : ℕ) (c : Ds3231) (m : Model) → Place (c .timing) m → Place (written p b t c .timing) (writeIn (stageOf p) b t m)
+write-place Released b t c m w = w
+write-place Reading b t c m w = w
+write-place Ignoring b t c m w = w
+write-place Pointer b t c m w =
+    either Place (leb b 0x12) {a = inPhase Writing (pointed b (c .timing))} {a′ = inPhase Ignoring (c .timing)} {b = standing writes (pointing b m)} {b′ = standing drops m}
     (record { stage = refl; pointer = refl }) (record { stage = refl; pointer = w .pointer })
-write-place Writing b t c m e w = record { stage = w .stage; pointer = next-moved (m .pointer) ∙ ap nextPointer (w .pointer) }
+write-place Writing b t c m w = record { stage = w .stage; pointer = next-moved (m .pointer) ∙ ap nextPointer (w .pointer) }
 
-read-place : (p : Phase) (t : ℕ) (c : Timing) (m : Model) → Place c m → Place (hasRead p t c) (readIn (stageOf p) t m)
+read-place : (p : Phase) (t : ℕ) (c : Ds3231) (m : Model) → Place (c .timing) m → Place (hasRead p t c .timing) (readIn (stageOf p) t m)
 read-place Released t c m w = w
 read-place Pointer t c m w = w
 read-place Writing t c m w = w
 read-place Ignoring t c m w = w
 read-place Reading t c m w =
-    subst (λ (r : ℕ). Place (hasRead Reading t c) (if leb 0x12 r then latching t (pointing 0 m) else pointing (r + 1) m)) (sym (w .pointer))
-    (either Place (leb 0x12 (c .pointer)) {a = latch t (pointed 0 c)} {a′ = pointed (c .pointer + 1) c} {b = latching t (pointing 0 m)} {b′ = pointing (c .pointer + 1) m}
+    let r = c .timing .pointer in
+    subst (λ (x : ℕ). Place (hasRead Reading t c .timing) (if leb 0x12 x then latching t (pointing 0 m) else pointing (x + 1) m)) (sym (w .pointer))
+    (either Place (leb 0x12 r) {a = latch t (pointed 0 (c .timing))} {a′ = pointed (r + 1) (c .timing)} {b = latching t (pointing 0 m)} {b′ = pointing (r + 1) m}
     (record { stage = w .stage; pointer = refl }) (record { stage = w .stage; pointer = refl }))
 
 pub event-place : (e : Event) (c : Ds3231) (m : Model) → Place (c .timing) m → Place (step e c .timing) (fed e m)
-event-place (START a r t) c m w = record { stage = stage-addressed a r; pointer = closed-pointer (m .accepted) m ∙ w .pointer }
-event-place (WRITE b t) c m w =
-    subst (λ (s : Stage). Place (written (c .timing .phase) b t (c .timing)) (writeIn s b t m)) (sym (w .stage)) (write-place (c .timing .phase) b t (c .timing) m refl w)
-event-place (READ k t) c m w =
-    subst (λ (s : Stage). Place (hasRead (c .timing .phase) t (c .timing)) (readIn s t m)) (sym (w .stage)) (read-place (c .timing .phase) t (c .timing) m w)
-event-place (STOP t) c m w = record { stage = refl; pointer = closed-pointer (m .accepted) m ∙ w .pointer }
+event-place (Start a r t) c m w = record { stage = stage-addressed a r; pointer = closed-pointer (m .accepted) m ∙ w .pointer }
+event-place (Write b t) c m w =
+    subst (λ (s : Stage). Place (written (c .timing .phase) b t c .timing) (writeIn s b t m)) (sym (w .stage)) (write-place (c .timing .phase) b t c m w)
+event-place (Read k t) c m w =
+    subst (λ (s : Stage). Place (hasRead (c .timing .phase) t c .timing) (readIn s t m)) (sym (w .stage)) (read-place (c .timing .phase) t c m w)
+event-place (Stop t) c m w = record { stage = refl; pointer = closed-pointer (m .accepted) m ∙ w .pointer }

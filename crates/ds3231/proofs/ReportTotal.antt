@@ -1,39 +1,16 @@
 -- The claim of `Total`, proved: each report waits or is dropped, and a taking takes what waits.
 -- Assumes nothing.
-use Prim.Native.Nat.{ℕ, _+_, _^_, _≤_, _<_}
+use Prim.Native.Nat.{_+_, _^_, _≤_, _<_}
 use mathlib.Core.List.{List, [], _∷_}
-use mathlib.Core.Path.{_≡_, refl, sym, ap}
+use mathlib.Core.Path.{_≡_, sym, ap}
 use native.Mathlib.Omega.{arith}
 use Rattle.refusals.specs.Numbered.{Numbered, accepted, refused, andThen, unless}
 use Rattle.diagnostics.proofs.Counts.{adds-all}
-use Rattle.ds3231.specs.Calls.{Event, START, WRITE, READ, STOP, writeReply, readReply, step, Call, bus, taking, chipBy, verdict, chipAfter, replyBy}
+use Rattle.ds3231.specs.Calls.{step, Call, bus, taking, chipBy, verdict, chipAfter, replyBy}
 use Rattle.ds3231.specs.Exact.{chipAfterAll}
-use Rattle.ds3231.specs.Total.{reportsOf, reported, takenIn, takenOf, taken, ReportTotal}
-use Rattle.ds3231.specs.declared.Phase.{Phase}
-use Rattle.ds3231.specs.declared.Phase.the-variants.{Released, Pointer, Writing, Reading, Ignoring}
+use Rattle.ds3231.specs.Total.{reportsOf, reported, takenOf, taken, ReportTotal}
 use Rattle.ds3231.specs.declared.Ds3231.{Ds3231}
 use Rattle.ds3231.proofs.ExactTime.{on-by}
-
--- a bus event takes nothing
-write-none : (p : Phase) → takenIn (writeReply p) ≡ 0
-write-none Released = refl
-write-none Pointer = refl
-write-none Writing = refl
-write-none Reading = refl
-write-none Ignoring = refl
-
-read-none : (p : Phase) (t : ℕ) (c : Ds3231) → takenIn (readReply p t c) ≡ 0
-read-none Released t c = refl
-read-none Pointer t c = refl
-read-none Writing t c = refl
-read-none Reading t c = refl
-read-none Ignoring t c = refl
-
-event-none : (e : Event) (c : Ds3231) → takenIn (step e c .reply) ≡ 0
-event-none (START a r t) c = refl
-event-none (WRITE b t) c = write-none (c .timing .phase)
-event-none (READ k t) c = read-none (c .timing .phase) t c
-event-none (STOP t) c = refl
 
 -- one call
 call-adds : (v : Numbered (Unit {0})) (k : Call) (c : Ds3231) → c .diagnostics .dropped + reportsOf v k c < 2 ^ 64
@@ -43,7 +20,7 @@ call-adds : (v : Numbered (Unit {0})) (k : Call) (c : Ds3231) → c .diagnostics
 call-adds (refused n vs) k c h = (omega arith, omega arith)
 call-adds (accepted u) (bus s e) c h =
     let a = adds-all (step e c .reports) (c .diagnostics) h in
-    (omega (arith, a .sum, event-none e c), a .up)
+    (omega (arith, a .sum), a .up)
 call-adds (accepted u) (taking s o) c h = (omega arith, omega arith)
 
 run-adds : (ks : List Call) (c : Ds3231) → c .diagnostics .dropped + reported c ks < 2 ^ 64

@@ -17,9 +17,9 @@ use Rattle.fields.specs.Table.{Meaning, meaning}
 use Rattle.diagnostics.proofs.Counts.{counted-all-in}
 use Rattle.ds3231.specs.Numbers.{range}
 use Rattle.ds3231.specs.Clock.{secondsAt}
-use Rattle.ds3231.specs.Timing.{isDefined, opened, noted, commit, accept, nextPointer, written, hasRead}
-use Rattle.ds3231.specs.Registers.{othersWritten}
-use Rattle.ds3231.specs.Calls.{inQuarters, sound, chipOn, Event, START, WRITE, READ, STOP, step, Call, bus, taking, chipBy, verdict, chipAfter, registerByte, registerAnswer}
+use Rattle.ds3231.specs.Timing.{isDefined, opened, noted, commit, accept, nextPointer}
+use Rattle.ds3231.specs.Registers.{registersWritten}
+use Rattle.ds3231.specs.Calls.{inQuarters, sound, chipOn, Step, written, hasRead, step, Call, bus, taking, chipBy, verdict, chipAfter, registerByte, registerAnswer}
 use Rattle.ds3231.specs.Exact.{chipAfterAll}
 use Rattle.ds3231.specs.declared.Clock.{Clock}
 use Rattle.ds3231.specs.declared.Phase.{Phase}
@@ -27,6 +27,8 @@ use Rattle.ds3231.specs.declared.Phase.the-variants.{Released, Pointer, 
 use Rattle.ds3231.specs.declared.Timing.{Timing}
 use Rattle.ds3231.specs.declared.Registers.{Registers}
 use Rattle.ds3231.specs.declared.Ds3231.{Ds3231}
+use Rattle.ds3231.specs.declared.Event.{Event}
+use Rattle.ds3231.specs.declared.Event.the-variants.{Start, Write, Read, Stop}
 use Rattle.ds3231.specs.declared.Ds3231Config.{Ds3231Config}
 use Rattle.ds3231.proofs.Masks.{control-clear, status-within}
 use Rattle.ds3231.proofs.Facts.{PendingIn, TimingIn, RegistersIn, Sound, sound-test, sound-fact}
@@ -52,56 +54,65 @@ accept-in m i t c h =
     found : PendingIn (if c .«is_pending» then c .pending else opened (c .clock) t)
     found = chosen PendingIn (c .«is_pending») (h .pending) (λ e. opened-in (c .clock) t)
 
-    by : (d : Bool) → (d || c .«is_pending») ≡ true → PendingIn (if d then noted m t (if c .«is_pending» then c .pending else opened (c .clock) t) else c .pending)
-    by true e = noted-in m i t _ found
+    by : (d : Bool) → (d || c .«is_pending») ≡ true → PendingIn (if d then noted m (if c .«is_pending» then c .pending else opened (c .clock) t) else c .pending)
+    by true e = noted-in m i _ found
     by false e = h .pending e
 
 next-in : (r : ℕ) → nextPointer r ≤ 0x12
 next-in r = chosen (λ x. x ≤ 0x12) (leb 0x12 r) (λ e. omega arith) (λ e. omega (arith, leb-false 0x12 r e))
 
-write-in : (p : Phase) (b t : ℕ) (c : Timing) → TimingIn c → TimingIn (written p b t c)
-write-in Released b t c h = h
-write-in Reading b t c h = h
-write-in Ignoring b t c h = h
-write-in Pointer b t c h =
-    chosen TimingIn (leb b 0x12) (λ e. record { pointer = leb-true b 0x12 e; base = h .base; offset = h .offset; pending = h .pending })
-    (λ e. record { pointer = h .pointer; base = h .base; offset = h .offset; pending = h .pending })
-write-in Writing b t c h =
-    let k = accept-in (meaning (c .pointer) b) (meaning-in (c .pointer) b) t c h in
-    record { pointer = next-in (c .pointer); base = k .base; offset = k .offset; pending = k .pending }
-
-read-in : (p : Phase) (t : ℕ) (c : Timing) → TimingIn c → TimingIn (hasRead p t c)
-read-in Released t c h = h
-read-in Pointer t c h = h
-read-in Writing t c h = h
-read-in Ignoring t c h = h
-read-in Reading t c h =
-    chosen TimingIn (leb 0x12 (c .pointer)) (λ e. record { pointer = omega arith; base = h .base; offset = h .offset; pending = h .pending })
-    (λ e. record { pointer = omega (arith, leb-false 0x12 (c .pointer) e); base = h .base; offset = h .offset; pending = h .pending })
-
 -- ---- the other registers
 
-written-in : (p : Phase) (r b t : ℕ) (g : Registers) → RegistersIn g → RegistersIn (othersWritten p r b t g)
-written-in Released r b t g h = h
-written-in Pointer r b t g h = h
-written-in Reading r b t g h = h
-written-in Ignoring r b t g h = h
-written-in Writing r b t g h =
+others-in : (r b t : ℕ) (g : Registers) → RegistersIn g → RegistersIn (registersWritten r b t g)
+others-in r b t g h =
     record {
       quarters = h .quarters;
       control = chosen (λ x. bitAnd x 0x20 ≡ 0) (eqb r 0x0E) (λ e. control-clear b) (λ e. h .control);
       status = chosen (λ x. bitAnd x 0x8B ≡ x) (eqb r 0x0F) (λ e. status-within (bitAnd (g .status) b) b) (λ e. h .status);
     }
 
+-- ---- the events
+
+-- timing and registers of a step
+abbrev StepIn : Step → Type 0
+StepIn s = TimingIn (s .timing) × RegistersIn (s .registers)
+
+write-in : (p : Phase) (b t : ℕ) (c : Ds3231) → Sound c → StepIn (written p b t c)
+write-in Released b t c h = (h .timing, h .registers)
+write-in Reading b t c h = (h .timing, h .registers)
+write-in Ignoring b t c h = (h .timing, h .registers)
+write-in Pointer b t c h =
+    let w = h .timing in (
+      chosen TimingIn (leb b 0x12) (λ e. record { pointer = leb-true b 0x12 e; base = w .base; offset = w .offset; pending = w .pending })
+          (λ e. record { pointer = w .pointer; base = w .base; offset = w .offset; pending = w .pending }),
+      h .registers,
+    )
+write-in Writing b t c h =
+    let r = c .timing .pointer in
+    let k = accept-in (meaning r b) (meaning-in r b) t (c .timing) (h .timing) in
+    (record { pointer = next-in r; base = k .base; offset = k .offset; pending = k .pending }, others-in r b t (c .registers) (h .registers))
+
+read-in : (p : Phase) (t : ℕ) (c : Ds3231) → Sound c → StepIn (hasRead p t c)
+read-in Released t c h = (h .timing, h .registers)
+read-in Pointer t c h = (h .timing, h .registers)
+read-in Writing t c h = (h .timing, h .registers)
+read-in Ignoring t c h = (h .timing, h .registers)
+read-in Reading t c h =
+    let w = h .timing in (
+      chosen TimingIn (leb 0x12 (c .timing .pointer)) (λ e. record { pointer = omega arith; base = w .base; offset = w .offset; pending = w .pending })
+          (λ e. record { pointer = omega (arith, leb-false 0x12 (c .timing .pointer) e); base = w .base; offset = w .offset; pending = w .pending }),
+      h .registers,
+    )
+
 -- ---- every call keeps a sound chip sound
 
-step-in : (e : Event) (c : Ds3231) → Sound c → TimingIn (step e c .timing) × RegistersIn (step e c .registers)
-step-in (START a r t) c h =
+step-in : (e : Event) (c : Ds3231) → Sound c → StepIn (step e c)
+step-in (Start a r t) c h =
     let k = commit-in (c .timing) (h .timing) in
     (record { pointer = k .pointer; base = k .base; offset = k .offset; pending = k .pending }, h .registers)
-step-in (WRITE b t) c h = (write-in (c .timing .phase) b t (c .timing) (h .timing), written-in (c .timing .phase) (c .timing .pointer) b t (c .registers) (h .registers))
-step-in (READ k t) c h = (read-in (c .timing .phase) t (c .timing) (h .timing), h .registers)
-step-in (STOP t) c h =
+step-in (Write b t) c h = write-in (c .timing .phase) b t c h
+step-in (Read k t) c h = read-in (c .timing .phase) t c h
+step-in (Stop t) c h =
     let k = commit-in (c .timing) (h .timing) in
     (record { pointer = k .pointer; base = k .base; offset = k .offset; pending = k .pending }, h .registers)
 

@@ -20,12 +20,14 @@ use Rattle.diagnostics.specs.declared.ChipName.the-variants.{Ds3231}
 use Rattle.diagnostics.specs.declared.I2cDiagnostic.{I2cDiagnostic}
 use Rattle.diagnostics.specs.declared.I2cDiagnosticKind.the-variants.{ReadOnly}
 use Rattle.ds3231.specs.Numbers.{nanos, range, day}
-use Rattle.ds3231.specs.Calls.{inQuarters, checkedQuarters, chipOn, powerOn, Event, START, WRITE, READ, STOP, byte, Call, bus, verdict, answer}
+use Rattle.ds3231.specs.Calls.{inQuarters, checkedQuarters, chipOn, powerOn, replied, Call, bus, verdict, answer}
 use Rattle.ds3231.specs.Model.{reads, Model, exact, dateWith, clamped, offsetWith, modelOn}
-use Rattle.ds3231.specs.Clock.{offsetFor}
 use Rattle.ds3231.proofs.Follows.{offset-same, offset-gives}
 use Rattle.ds3231.specs.Exact.{events, fullyLent, modelAfter, ReadsTime, chip, model}
 use Rattle.ds3231.specs.declared.Ds3231Config.{Ds3231Config}
+use Rattle.ds3231.specs.declared.Event.{Event}
+use Rattle.ds3231.specs.declared.Event.the-variants.{Start, Write, Read, Stop}
+use Rattle.ds3231.specs.declared.Reply.the-variants.{Byte}
 use Rattle.ds3231.proofs.Counting.{whole-count}
 use Rattle.ds3231.specs.Exact.{NeverFall, instant}
 use Rattle.ds3231.proofs.Sounds.{sound-run}
@@ -51,19 +53,19 @@ on-store (e ∷ es) = bus store e ∷ on-store es
 -- *hour and bad weekday*, up to its READ
 pub case : List Event
 case =
-    START 0x68 false 1_000_000_000 ∷ WRITE 0x02 1_000_100_000 ∷ WRITE 0x61 1_000_200_000 ∷ WRITE 0x08 1_000_300_000 ∷ STOP 1_000_400_000
-    ∷ START 0x68 true 1_500_000_000 ∷ []
+    Start 0x68 false 1_000_000_000 ∷ Write 0x02 1_000_100_000 ∷ Write 0x61 1_000_200_000 ∷ Write 0x08 1_000_300_000 ∷ Stop 1_000_400_000
+    ∷ Start 0x68 true 1_500_000_000 ∷ []
 
 -- the rest of it
 pub case-end : List Event
-case-end = READ false 1_500_100_000 ∷ STOP 1_500_200_000 ∷ []
+case-end = Read false 1_500_100_000 ∷ Stop 1_500_200_000 ∷ []
 
 -- then 12:34:56 PM, weekday 3, 2124-02-28 is written, and the pointer set to 0 for a read
 pub setting : List Event
 setting =
-    START 0x68 false 2_000_000_000 ∷ WRITE 0x00 2_000_100_000 ∷ WRITE 0x56 2_000_200_000 ∷ WRITE 0x34 2_000_300_000 ∷ WRITE 0x72 2_000_400_000
-    ∷ WRITE 0x03 2_000_500_000 ∷ WRITE 0x28 2_000_600_000 ∷ WRITE 0x82 2_000_700_000 ∷ WRITE 0x24 2_000_800_000 ∷ STOP 2_000_900_000
-    ∷ START 0x68 false 2_100_000_000 ∷ WRITE 0x00 2_100_100_000 ∷ START 0x68 true 2_100_200_000 ∷ []
+    Start 0x68 false 2_000_000_000 ∷ Write 0x00 2_000_100_000 ∷ Write 0x56 2_000_200_000 ∷ Write 0x34 2_000_300_000 ∷ Write 0x72 2_000_400_000
+    ∷ Write 0x03 2_000_500_000 ∷ Write 0x28 2_000_600_000 ∷ Write 0x82 2_000_700_000 ∷ Write 0x24 2_000_800_000 ∷ Stop 2_000_900_000
+    ∷ Start 0x68 false 2_100_000_000 ∷ Write 0x00 2_100_100_000 ∷ Start 0x68 true 2_100_200_000 ∷ []
 
 -- ---- tests that compute
 
@@ -103,7 +105,7 @@ after es = modelAfter (modelOn config) es
 model-is : (es : List Event) → model config (chipOn config) (on-store es) ≡ after es
 model-is es = ap (modelAfter (modelOn config)) (exact-time config (chipOn config) on (on-store es) .feed ∙ lent es)
 
-allowed : (es : List Event) (t : ℕ) → verdict (bus store (READ false t)) (chip config (chipOn config) (on-store es)) ≡ accepted tt
+allowed : (es : List Event) (t : ℕ) → verdict (bus store (Read false t)) (chip config (chipOn config) (on-store es)) ≡ accepted tt
 unfolding store
 allowed es t =
     ap (λ (b : Bool). if not b then refused 10 [] else if not (eqb (length store) 256) then refused 11 [] else accepted tt)
@@ -118,25 +120,25 @@ append (x ∷ xs) ys = ap (λ (l : List Call). bus store x ∷ l) (append xs ys)
 pub record Answers (es : List Event) (t r b : ℕ) : Type 0 where
   pub condition : ReadsTime config (chipOn config) (on-store es) store false t
   pub register : model config (chipOn config) (on-store es) .pointer ≡ r
-  pub answers : answer (bus store (READ false t)) (chip config (chipOn config) (on-store es)) ≡ accepted (byte b)
+  pub answers : answer (bus store (Read false t)) (chip config (chipOn config) (on-store es)) ≡ accepted (replied (Byte b))
 
 read-at : (es : List Event) (t r b : ℕ) → after es .stage ≡ reads → after es .pointer ≡ r → r ≤ 6 → getD (after es .latched) r 0 ≡ b
-    → T (rises 0 (es ++ (READ false t ∷ []))) → Answers es t r b
+    → T (rises 0 (es ++ (Read false t ∷ []))) → Answers es t r b
 unfolding on-store
 read-at es t r b p q h l u =
     let m = model-is es in
-    let calls = on-store es ++ (bus store (READ false t) ∷ []) in
+    let calls = on-store es ++ (bus store (Read false t) ∷ []) in
     let c : ReadsTime config (chipOn config) (on-store es) store false t =
     record { not-refused = allowed es t; reading = ap (λ (x : Model). x .stage) m ∙ p; at-time = subst (λ (x : ℕ). x ≤ 6) (sym (ap (λ (x : Model). x .pointer) m ∙ q)) h } in
-    let f : events (chipOn config) calls ≡ es ++ (READ false t ∷ []) =
-    exact-time config (chipOn config) on calls .feed ∙ ap fullyLent (sym (append es (READ false t ∷ []))) ∙ lent (es ++ (READ false t ∷ [])) in
+    let f : events (chipOn config) calls ≡ es ++ (Read false t ∷ []) =
+    exact-time config (chipOn config) on calls .feed ∙ ap fullyLent (sym (append es (Read false t ∷ []))) ∙ lent (es ++ (Read false t ∷ [])) in
     record {
       condition = c;
       register = ap (λ (x : Model). x .pointer) m ∙ q;
       answers =
           exact-time config (chipOn config) on calls .answers-model (subst (NeverFall 0) (sym f) (rises-never 0 _ u)) (on-store es) [] store false t refl c
-          ∙ ap₂ (λ (x : List ℕ) (y : ℕ). accepted (byte (getD x y 0))) (ap (λ (x : Model). x .latched) m) (ap (λ (x : Model). x .pointer) m ∙ q)
-          ∙ ap (λ (x : ℕ). accepted (byte x)) l;
+          ∙ ap₂ (λ (x : List ℕ) (y : ℕ). accepted (replied (Byte (getD x y 0)))) (ap (λ (x : Model). x .latched) m) (ap (λ (x : Model). x .pointer) m ∙ q)
+          ∙ ap (λ (x : ℕ). accepted (replied (Byte x))) l;
     }
 
 -- ---- the times
@@ -224,7 +226,7 @@ set-latched m =
 -- the first k READs, and all that comes before them
 pub readings : ℕ → List Event
 readings zero = []
-readings (suc k) = readings k ++ (READ false (2_100_300_000 + k * 100_000) ∷ [])
+readings (suc k) = readings k ++ (Read false (2_100_300_000 + k * 100_000) ∷ [])
 
 pub story : ℕ → List Event
 story k = case ++ (case-end ++ (setting ++ readings k))

@@ -1,12 +1,12 @@
 -- The calls on one chip: what each answers and leaves, in document 01's numbers.
 -- Assumes nothing.
-use Prim.Native.Nat.{ℕ}
+use Prim.Native.Nat.{ℕ, _+_}
 use mathlib.Core.Bool.{Bool, true, false, not, _&&_, _||_}
 use mathlib.Core.List.{List, [], _∷_, _++_}
 use lib.Bits.{bitAnd}
 use lib.Dec.{leb, ltb, eqb}
 use lib.IntN.{ℤ, pos, negsuc}
-use lib.ListN.{length, getD, take, drop, replicate}
+use lib.ListN.{length, take, drop, replicate}
 use lib.Signed.{leZ}
 use Rattle.refusals.specs.Numbered.{Numbered, accepted, refused, andThen, unless}
 use Rattle.computed.specs.Choice.{if_then_else_}
@@ -18,9 +18,8 @@ use Rattle.diagnostics.specs.declared.I2cDiagnosticKind.the-variants.{NotModell
 use Rattle.diagnostics.specs.declared.I2cDiagnostic.{I2cDiagnostic}
 use Rattle.ds3231.specs.Numbers.{range}
 use Rattle.ds3231.specs.Clock.{timeAt, clockSet}
-use Rattle.ds3231.specs.Timing.{isDefined, shownAt, latch, started, written, hasRead, stopped}
-use Rattle.ds3231.specs.Registers.{otherByte, enablesOutput, othersWritten}
-use Rattle.ds3231.specs.declared.SecondsAt.the-variants.{NotWritten}
+use Rattle.ds3231.specs.Timing.{isDefined, shownAt, latch, inPhase, pointed, commit, accept, nextPointer, addressed}
+use Rattle.ds3231.specs.Registers.{byteAt, enablesOutput, registersWritten}
 use Rattle.ds3231.specs.declared.PendingTime.{PendingTime}
 use Rattle.ds3231.specs.declared.Phase.{Phase}
 use Rattle.ds3231.specs.declared.Phase.the-variants.{Released, Pointer, Writing, Reading, Ignoring}
@@ -28,6 +27,10 @@ use Rattle.ds3231.specs.declared.Timing.{Timing}
 use Rattle.ds3231.specs.declared.Registers.{Registers}
 use Rattle.ds3231.specs.declared.Ds3231 as Chip
 use Rattle.ds3231.specs.declared.Ds3231Config.{Ds3231Config}
+use Rattle.ds3231.specs.declared.Event.{Event}
+use Rattle.ds3231.specs.declared.Event.the-variants.{Start, Write, Read, Stop}
+use Rattle.ds3231.specs.declared.Reply.{Reply}
+use Rattle.ds3231.specs.declared.Reply.the-variants.{Acknowledge, Byte, Done}
 
 -- ---- sound: document 01's list
 
@@ -62,7 +65,7 @@ sound c = soundTiming (c .timing) && soundRegisters (c .registers) && leb (c .di
 
 -- what `pending` holds at power-on, which no call shows
 abbrev pub noPending : DateTime → PendingTime
-noPending start = record { time = start; weekday = 1; «first_at» = 0; «seconds_at» = NotWritten }
+noPending start = record { time = start; weekday = 1 }
 
 abbrev pub timingOn : Ds3231Config → Timing
 timingOn f =
@@ -74,6 +77,7 @@ timingOn f =
       latched = [];
       «is_pending» = false;
       pending = noPending (f .start);
+      «pending_at» = 0;
     })
 
 abbrev pub registersOn : Ds3231Config → Registers
@@ -110,26 +114,12 @@ droppedAnswer c = andThen (checkedChip c) (accepted (c .diagnostics .dropped))
 
 -- the byte of a register: the live time at 0x00 to 0x06
 abbrev pub registerByte : Chip.Ds3231 → ℕ → ℕ → ℕ
-registerByte c r t = if leb r 0x06 then getD (shownAt (c .timing) t) r 0 else otherByte (c .registers) r t
+registerByte c r t = byteAt (shownAt (c .timing) t) (c .registers) r t
 
 abbrev pub registerAnswer : Chip.Ds3231 → ℕ → ℕ → Numbered ℕ
 registerAnswer c r t = andThen (checkedChip c) (if leb r 0x12 then accepted (registerByte c r t) else refused 9 [])
 
 -- ---- the bus events
-
--- START with an address and the read bit, WRITE with a byte, READ with the master's acknowledge, STOP, each with its instant
-pub data Event : Type 0 where
-  START : (address : ℕ) (read : Bool) (at : ℕ) → Event
-  WRITE : (byte : ℕ) (at : ℕ) → Event
-  READ : (acknowledged : Bool) (at : ℕ) → Event
-  STOP : (at : ℕ) → Event
-
--- what a call answers that is not refused
-pub data Reply : Type 0 where
-  acknowledge : Bool → Reply
-  byte : ℕ → Reply
-  done : Reply
-  copied : ℕ → Reply
 
 -- what an event makes of timing and registers, the reports that it makes, and its answer
 pub record Step : Type 0 where
@@ -153,61 +143,74 @@ registerReports r b t g =
     else if leb 0x11 r then report t (ReadOnly r) ∷ []
     else []
 
--- WRITE in a phase: NOREGISTER for a pointer byte above 0x12
-abbrev pub writeReports : Phase → ℕ → ℕ → ℕ → Registers → List I2cDiagnostic
-writeReports Released r b t g = []
-writeReports Reading r b t g = []
-writeReports Ignoring r b t g = []
-writeReports Pointer r b t g = if leb b 0x12 then [] else report t (NoSuchRegister b) ∷ []
-writeReports Writing r b t g = registerReports r b t g
+-- an event that changes and reports nothing
+abbrev pub repliedOnly : Reply → Chip.Ds3231 → Step
+repliedOnly y c = record { timing = c .timing; registers = c .registers; reports = []; reply = y }
 
--- a WRITE is acknowledged while addressed for writing
-abbrev pub writeReply : Phase → Reply
-writeReply Released = acknowledge false
-writeReply Reading = acknowledge false
-writeReply Pointer = acknowledge true
-writeReply Writing = acknowledge true
-writeReply Ignoring = acknowledge true
-
--- a READ answers the latched time or the live register, and 0xFF while not addressed for reading
-abbrev pub readReply : Phase → ℕ → Chip.Ds3231 → Reply
-readReply Released t c = byte 0xFF
-readReply Pointer t c = byte 0xFF
-readReply Writing t c = byte 0xFF
-readReply Ignoring t c = byte 0xFF
-readReply Reading t c =
-    byte (if leb (c .timing .pointer) 0x06 then getD (c .timing .latched) (c .timing .pointer) 0 else otherByte (c .registers) (c .timing .pointer) t)
-
-abbrev pub step : Event → Chip.Ds3231 → Step
-step (START a r t) c = record {
-  timing = started a r t (c .timing);
+-- START commits and latches, whomever it addresses; it is acknowledged by 0x68 alone
+abbrev pub started : ℕ → Bool → ℕ → Chip.Ds3231 → Step
+started a r t c = record {
+  timing = inPhase (addressed a r) (latch t (commit (c .timing)));
   registers = c .registers;
   reports = commitReports t (c .timing);
-  reply = acknowledge (eqb a 0x68);
+  reply = Acknowledge (eqb a 0x68);
 }
-step (WRITE b t) c = record {
-  timing = written (c .timing .phase) b t (c .timing);
-  registers = othersWritten (c .timing .phase) (c .timing .pointer) b t (c .registers);
-  reports = writeReports (c .timing .phase) (c .timing .pointer) b t (c .registers);
-  reply = writeReply (c .timing .phase);
+
+-- WRITE in a phase: the pointer byte, NOREGISTER above 0x12, then bytes to the register at the pointer, which moves on; acknowledged while addressed for writing
+abbrev pub written : Phase → ℕ → ℕ → Chip.Ds3231 → Step
+written Released b t c = repliedOnly (Acknowledge false) c
+written Reading b t c = repliedOnly (Acknowledge false) c
+written Ignoring b t c = repliedOnly (Acknowledge true) c
+written Pointer b t c = record {
+  timing = if leb b 0x12 then inPhase Writing (pointed b (c .timing)) else inPhase Ignoring (c .timing);
+  registers = c .registers;
+  reports = if leb b 0x12 then [] else report t (NoSuchRegister b) ∷ [];
+  reply = Acknowledge true;
 }
-step (READ k t) c = record {
-  timing = hasRead (c .timing .phase) t (c .timing);
+written Writing b t c = record {
+  timing = pointed (nextPointer (c .timing .pointer)) (accept (meaning (c .timing .pointer) b) t (c .timing));
+  registers = registersWritten (c .timing .pointer) b t (c .registers);
+  reports = registerReports (c .timing .pointer) b t (c .registers);
+  reply = Acknowledge true;
+}
+
+-- READ in a phase: the latched time or the live register at the pointer, which moves on, and the time is latched anew where it goes to 0; 0xFF while not addressed for reading
+abbrev pub hasRead : Phase → ℕ → Chip.Ds3231 → Step
+hasRead Released t c = repliedOnly (Byte 0xFF) c
+hasRead Pointer t c = repliedOnly (Byte 0xFF) c
+hasRead Writing t c = repliedOnly (Byte 0xFF) c
+hasRead Ignoring t c = repliedOnly (Byte 0xFF) c
+hasRead Reading t c = record {
+  timing = if leb 0x12 (c .timing .pointer) then latch t (pointed 0 (c .timing)) else pointed (c .timing .pointer + 1) (c .timing);
   registers = c .registers;
   reports = [];
-  reply = readReply (c .timing .phase) t c;
+  reply = Byte (byteAt (c .timing .latched) (c .registers) (c .timing .pointer) t);
 }
-step (STOP t) c = record {
-  timing = stopped (c .timing);
+
+-- STOP commits, and nothing is addressed
+abbrev pub stopped : ℕ → Chip.Ds3231 → Step
+stopped t c = record {
+  timing = inPhase Released (commit (c .timing));
   registers = c .registers;
   reports = commitReports t (c .timing);
-  reply = done;
+  reply = Done;
 }
+
+abbrev pub step : Event → Chip.Ds3231 → Step
+step (Start a r t) c = started a r t c
+step (Write b t) c = written (c .timing .phase) b t c
+step (Read k t) c = hasRead (c .timing .phase) t c
+step (Stop t) c = stopped t c
 
 abbrev pub stepChip : Step → Chip.Ds3231 → Chip.Ds3231
 stepChip s c = record { timing = s .timing; registers = s .registers; diagnostics = countedAll (s .reports) (c .diagnostics) }
 
 -- ---- the calls that change the chip, each with the store that it is lent, and taking with its output
+
+-- what a call answers that is not refused: an event its reply, taking how many records it copied
+pub data Answered : Type 0 where
+  replied : Reply → Answered
+  copied : ℕ → Answered
 
 pub data Call : Type 0 where
   bus : (store : List I2cDiagnostic) → Event → Call
@@ -243,8 +246,8 @@ abbrev pub outBy : Call → Chip.Ds3231 → List I2cDiagnostic
 outBy (bus s e) c = []
 outBy (taking s o) c = take (c .diagnostics .waiting) s ++ drop (c .diagnostics .waiting) o
 
-abbrev pub replyBy : Call → Chip.Ds3231 → Reply
-replyBy (bus s e) c = step e c .reply
+abbrev pub replyBy : Call → Chip.Ds3231 → Answered
+replyBy (bus s e) c = replied (step e c .reply)
 replyBy (taking s o) c = copied (c .diagnostics .waiting)
 
 -- the output that a call is lent
@@ -262,5 +265,5 @@ storeAfter k c = unless (verdict k c) (storeBy k c) (lentStore k)
 abbrev pub outAfter : Call → Chip.Ds3231 → List I2cDiagnostic
 outAfter k c = unless (verdict k c) (outBy k c) (lentOut k)
 
-abbrev pub answer : Call → Chip.Ds3231 → Numbered Reply
+abbrev pub answer : Call → Chip.Ds3231 → Numbered Answered
 answer k c = andThen (verdict k c) (accepted (replyBy k c))

@@ -12,10 +12,13 @@ use Rattle.calendar.specs.Stated.{secondsOf}
 use Rattle.calendar.specs.declared.DateTime.{DateTime}
 use Rattle.diagnostics.specs.declared.I2cDiagnostic.{I2cDiagnostic}
 use Rattle.ds3231.specs.Numbers.{nanos}
-use Rattle.ds3231.specs.Calls.{Event, START, WRITE, READ, STOP, byte, Call, bus, taking, powerOn, nowAnswer, registerAnswer, verdict, chipAfter, answer}
+use Rattle.ds3231.specs.Calls.{replied, Call, bus, taking, powerOn, nowAnswer, registerAnswer, verdict, chipAfter, answer}
 use Rattle.ds3231.specs.Model.{Model, reads, exact, wraps, fed, modelOn}
 use Rattle.ds3231.specs.declared.Ds3231.{Ds3231}
 use Rattle.ds3231.specs.declared.Ds3231Config.{Ds3231Config}
+use Rattle.ds3231.specs.declared.Event.{Event}
+use Rattle.ds3231.specs.declared.Event.the-variants.{Start, Write, Read, Stop}
+use Rattle.ds3231.specs.declared.Reply.the-variants.{Byte}
 
 -- the chip after calls, each getting the chip that the last one left
 abbrev pub chipAfterAll : Ds3231 → List Call → Ds3231
@@ -49,10 +52,10 @@ pub record Mark : Type 0 where
   pub at : ℕ
 
 abbrev pub markWith : Event → Model → Ds3231 → Mark → Mark
-markWith (START a r t) m after l = record { chip = after; at = t }
-markWith (WRITE b t) m after l = l
-markWith (READ k t) m after l = if wraps m then record { chip = after; at = t } else l
-markWith (STOP t) m after l = l
+markWith (Start a r t) m after l = record { chip = after; at = t }
+markWith (Write b t) m after l = l
+markWith (Read k t) m after l = if wraps m then record { chip = after; at = t } else l
+markWith (Stop t) m after l = l
 
 abbrev pub markBy : Numbered (Unit {0}) → Call → Model → Ds3231 → Mark → Mark
 markBy (refused n vs) k m after l = l
@@ -70,10 +73,10 @@ markAfter l m c (k ∷ ks) = markAfter (markBy (verdict k c) k m (chipAfter k c)
 
 -- the instant of an event; instants that never fall, from one on; the latest of them
 abbrev pub instant : Event → ℕ
-instant (START a r t) = t
-instant (WRITE b t) = t
-instant (READ k t) = t
-instant (STOP t) = t
+instant (Start a r t) = t
+instant (Write b t) = t
+instant (Read k t) = t
+instant (Stop t) = t
 
 abbrev pub NeverFall : ℕ → List Event → Type 0
 NeverFall t [] = Unit {0}
@@ -96,7 +99,7 @@ module _ (f : Ds3231Config) (c₀ : Ds3231) where
 
   -- after `before` comes a READ, not refused, that finds the model addressed for reading and at 0x00 to 0x06
   pub record ReadsTime (before : List Call) (s : List I2cDiagnostic) (k : Bool) (t : ℕ) : Type 0 where
-    pub not-refused : verdict (bus s (READ k t)) (chip before) ≡ accepted tt
+    pub not-refused : verdict (bus s (Read k t)) (chip before) ≡ accepted tt
     pub reading : model before .stage ≡ reads
     pub at-time : model before .pointer ≤ 0x06
 
@@ -105,14 +108,14 @@ module _ (f : Ds3231Config) (c₀ : Ds3231) where
     pub feed : events c₀ calls ≡ fullyLent calls
     -- such a READ answers what `register` answers right after the latest START or wrap, at its instant
     pub answers-register : (before later : List Call) (s : List I2cDiagnostic) (k : Bool) (t : ℕ)
-        → calls ≡ before ++ (bus s (READ k t) ∷ later) → ReadsTime before s k t
-        → (b : ℕ) × (answer (bus s (READ k t)) (chip before) ≡ accepted (byte b))
+        → calls ≡ before ++ (bus s (Read k t) ∷ later) → ReadsTime before s k t
+        → (b : ℕ) × (answer (bus s (Read k t)) (chip before) ≡ accepted (replied (Byte b)))
         × (registerAnswer (mark before .chip) (model before .pointer) (mark before .at) ≡ accepted b)
     -- if the instants never fall: that is the model's latched byte
     pub answers-model : NeverFall 0 (events c₀ calls)
         → (before later : List Call) (s : List I2cDiagnostic) (k : Bool) (t : ℕ)
-        → calls ≡ before ++ (bus s (READ k t) ∷ later) → ReadsTime before s k t
-        → answer (bus s (READ k t)) (chip before) ≡ accepted (byte (getD (model before .latched) (model before .pointer) 0))
+        → calls ≡ before ++ (bus s (Read k t) ∷ later) → ReadsTime before s k t
+        → answer (bus s (Read k t)) (chip before) ≡ accepted (replied (Byte (getD (model before .latched) (model before .pointer) 0)))
     -- and the chip's latched bytes are the model's
     pub latches : NeverFall 0 (events c₀ calls) → chip calls .timing .latched ≡ model calls .latched
     -- and at any instant from the last event on, the shown seconds are at most the exact count and less than a second below it

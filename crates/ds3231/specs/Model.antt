@@ -9,8 +9,9 @@ use Rattle.calendar.specs.Stated.{secondsOf, timeOf, monthLength, dayNumber, wi
 use Rattle.calendar.specs.declared.DateTime.{DateTime}
 use Rattle.fields.specs.Table.{Meaning, undefined, sets, meaning, timeBytes}
 use Rattle.ds3231.specs.Numbers.{nanos, range, day}
-use Rattle.ds3231.specs.Calls.{Event, START, WRITE, READ, STOP}
 use Rattle.ds3231.specs.declared.Ds3231Config.{Ds3231Config}
+use Rattle.ds3231.specs.declared.Event.{Event}
+use Rattle.ds3231.specs.declared.Event.the-variants.{Start, Write, Read, Stop}
 
 -- where the model stands in a transaction
 pub data Stage : Type 0 where
@@ -207,10 +208,10 @@ abbrev pub addressedBy : ℕ → Bool → Stage
 addressedBy address read = if eqb address 0x68 then (if read then reads else awaitsPointer) else unaddressed
 
 abbrev pub fed : Event → Model → Model
-fed (START a r t) m = standing (addressedBy a r) (latching t (closed m))
-fed (WRITE b t) m = writeIn (m .stage) b t m
-fed (READ k t) m = readIn (m .stage) t m
-fed (STOP t) m = standing unaddressed (closed m)
+fed (Start a r t) m = standing (addressedBy a r) (latching t (closed m))
+fed (Write b t) m = writeIn (m .stage) b t m
+fed (Read k t) m = readIn (m .stage) t m
+fed (Stop t) m = standing unaddressed (closed m)
 
 -- at power-on: the configured seconds at instant 0, unaddressed, 24-hour mode, offset 5
 abbrev pub modelOn : Ds3231Config → Model

@@ -1,15 +1,14 @@
--- The registers outside the time, 0x07 to 0x12: their bytes, and what a write does to them.
+-- The byte of a register, and the registers outside the time, 0x07 to 0x12: their bytes, and what a write does to them.
 -- Assumes nothing.
 use Prim.Native.Nat.{ℕ, _+_, _*_, _-_, _%_, min}
 use mathlib.Core.Bool.{Bool, not, _&&_, _||_}
+use mathlib.Core.List.{List}
 use lib.Bits.{bitAnd, bitOr}
 use lib.Dec.{leb, ltb, eqb}
 use lib.IntN.{ℤ, pos, negsuc}
 use lib.ListN.{getD, set}
 use lib.Signed.{shrZ}
 use Rattle.computed.specs.Choice.{if_then_else_}
-use Rattle.ds3231.specs.declared.Phase.{Phase}
-use Rattle.ds3231.specs.declared.Phase.the-variants.{Released, Pointer, Writing, Reading, Ignoring}
 use Rattle.ds3231.specs.declared.Registers.{Registers}
 
 -- a conversion runs at every instant below its end
@@ -38,6 +37,10 @@ otherByte g r t =
     else if eqb r 0x11 then temperatureHigh (g .«temperature_quarters»)
     else temperatureLow (g .«temperature_quarters»)
 
+-- the byte of a register, from the seven bytes of the time at 0x00 to 0x06
+abbrev pub byteAt : List ℕ → Registers → ℕ → ℕ → ℕ
+byteAt bytes g r t = if leb r 0x06 then getD bytes r 0 else otherByte g r t
+
 -- a control byte that enables the output that is not modelled: bit 2 clear, or set with bit 0 or 1
 abbrev pub enablesOutput : ℕ → Bool
 enablesOutput b = eqb (bitAnd b 0x04) 0 || not (eqb (bitAnd b 0x03) 0)
@@ -57,11 +60,3 @@ registersWritten r b t g = record {
   «temperature_quarters» = g .«temperature_quarters»;
   «int_sqw_reported» = eqb r 0x0E && enablesOutput b || g .«int_sqw_reported»;
 }
-
--- WRITE in a phase
-abbrev pub othersWritten : Phase → ℕ → ℕ → ℕ → Registers → Registers
-othersWritten Released r b t g = g
-othersWritten Pointer r b t g = g
-othersWritten Reading r b t g = g
-othersWritten Ignoring r b t g = g
-othersWritten Writing r b t g = registersWritten r b t g

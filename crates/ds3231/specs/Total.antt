@@ -5,7 +5,7 @@ use mathlib.Core.List.{List, [], _∷_}
 use mathlib.Core.Path.{_≡_}
 use lib.ListN.{length}
 use Rattle.refusals.specs.Numbered.{Numbered, accepted, refused}
-use Rattle.ds3231.specs.Calls.{step, Reply, acknowledge, byte, done, copied, Call, bus, taking, powerOn, verdict, chipAfter, answer}
+use Rattle.ds3231.specs.Calls.{step, Answered, replied, copied, Call, bus, taking, powerOn, verdict, chipAfter, answer}
 use Rattle.ds3231.specs.Exact.{chipAfterAll}
 use Rattle.ds3231.specs.declared.Ds3231.{Ds3231}
 use Rattle.ds3231.specs.declared.Ds3231Config.{Ds3231Config}
@@ -21,13 +21,11 @@ reported c [] = 0
 reported c (k ∷ ks) = reportsOf (verdict k c) k c + reported (chipAfter k c) ks
 
 -- the records taken: what takings that are not refused answer
-abbrev pub takenIn : Reply → ℕ
-takenIn (acknowledge b) = 0
-takenIn (byte b) = 0
-takenIn done = 0
+abbrev pub takenIn : Answered → ℕ
+takenIn (replied y) = 0
 takenIn (copied n) = n
 
-abbrev pub takenOf : Numbered Reply → ℕ
+abbrev pub takenOf : Numbered Answered → ℕ
 takenOf (refused n vs) = 0
 takenOf (accepted r) = takenIn r
 

@@ -1,5 +1,5 @@
-// The DS3231 real-time clock: its structs. What its calls mean, document 01's model, the exact time and the report total are
-// definitions and theorems; no function.
+// The DS3231 real-time clock: its structs, the bus events and their replies. What its calls mean, document 01's model, the
+// exact time and the report total are definitions and theorems; no function.
 // To read it: of specs/ `Clock`, `Timing`, `Registers`, `Calls`, then `Model`, `Exact` and `Total`; docs/EXACT-TIME.md says the
 // theorem in plain words. Its proof is `proofs/ExactTime.antt`, and `proofs/Witness.antt` shows that it is not empty.
 use calendar::DateTime;
@@ -13,18 +13,10 @@ pub struct Clock {
     pub weekday_offset: u64,
 }
 
-// The instant of the last seconds byte of a transaction, if there is one.
-pub enum SecondsAt {
-    NotWritten,
-    Written(u64),
-}
-
-// The time registers written in the current transaction, applied when it ends. Its day may not fit its month until then.
+// The time registers written in the transaction under way, applied when it ends. Its day may not fit its month until then.
 pub struct PendingTime {
     pub time: DateTime,
     pub weekday: u8,
-    pub first_at: u64,
-    pub seconds_at: SecondsAt,
 }
 
 // Where the chip stands in the transaction on the bus.
@@ -41,7 +33,8 @@ pub enum Phase {
     Ignoring,
 }
 
-// What keeps the time and follows the bus. `pending` counts only while `is_pending`.
+// What keeps the time and follows the bus. `pending` and `pending_at` count only while `is_pending`: a second of the pending
+// time begins at the instant `pending_at`.
 pub struct Timing {
     pub phase: Phase,
     pub pointer: u8,
@@ -50,6 +43,7 @@ pub struct Timing {
     pub latched: [u8; 7],
     pub is_pending: bool,
     pub pending: PendingTime,
+    pub pending_at: u64,
 }
 
 // The registers outside the time: control without bit 5 and status without bit 2, which read set while a conversion runs.
@@ -76,4 +70,19 @@ pub struct Ds3231Config {
     pub start: DateTime,
     pub oscillator_stopped: bool,
     pub temperature_quarters: i16,
+}
+
+// A bus event, with its instant.
+pub enum Event {
+    Start { address: u8, read: bool, at: u64 },
+    Write { byte: u8, at: u64 },
+    Read { acknowledged: bool, at: u64 },
+    Stop { at: u64 },
+}
+
+// What a bus event answers: START and WRITE an acknowledge, READ a byte.
+pub enum Reply {
+    Acknowledge(bool),
+    Byte(u8),
+    Done,
 }

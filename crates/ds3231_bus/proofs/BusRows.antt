@@ -9,7 +9,8 @@ use Rattle.walking.proofs.Extras.{Extra, number, flag, Values}
 use Rattle.walking.proofs.Drive.{Makes, Claims, Shown}
 use Rattle.diagnostics.proofs.Rows.{diagnostic, diagnostic-data}
 use Rattle.diagnostics.proofs.Stores.{write-within, writes, leaves}
-use Rattle.ds3231.specs.Calls.{Event, START, WRITE, READ, STOP}
+use Rattle.ds3231.specs.declared.Event.{Event}
+use Rattle.ds3231.specs.declared.Event.the-variants.{Start, Write, Read, Stop}
 use Rattle.ds3231_bus.specs.Answers.{Called, OutcomeOn}
 use Rattle.ds3231_bus.specs.declared.outcomes.Outcome.{Outcome}
 use Rattle.ds3231_bus.proofs.Rows.{chip, chip-data}
@@ -59,25 +60,25 @@ abbrev pub address-read-at : List Extra
 address-read-at = number w8 ∷ flag ∷ number w64 ∷ []
 
 abbrev pub start : Values address-read-at → Event
-start xs = START (xs .0) (xs .1 .0) (xs .1 .1 .0)
+start xs = Start (xs .0) (xs .1 .0) (xs .1 .1 .0)
 
 abbrev pub byte-at : List Extra
 byte-at = number w8 ∷ number w64 ∷ []
 
 abbrev pub write : Values byte-at → Event
-write xs = WRITE (xs .0) (xs .1 .0)
+write xs = Write (xs .0) (xs .1 .0)
 
 abbrev pub acknowledged-at : List Extra
 acknowledged-at = flag ∷ number w64 ∷ []
 
 abbrev pub read : Values acknowledged-at → Event
-read xs = READ (xs .0) (xs .1 .0)
+read xs = Read (xs .0) (xs .1 .0)
 
 abbrev pub only-at : List Extra
 only-at = number w64 ∷ []
 
 abbrev pub stop : Values only-at → Event
-stop xs = STOP (xs .0)
+stop xs = Stop (xs .0)
 
 module _ (es : List Extra) (event : Values es → Event) where
   abbrev Made : Makes chip answer diagnostic es outcome

@@ -10,21 +10,20 @@ use Rattle.diagnostics.specs.Reports.{storedAll}
 use Rattle.diagnostics.specs.Lent.{writtenIf, OnStores}
 use Rattle.diagnostics.specs.declared.Diagnostics.{Diagnostics}
 use Rattle.diagnostics.specs.declared.I2cDiagnostic.{I2cDiagnostic}
-use Rattle.ds3231.specs.Calls.{Event, Reply, acknowledge, byte, done, copied, bus, taking, chipAfter, storeAfter, outAfter, answer}
+use Rattle.ds3231.specs.Calls.{Answered, replied, copied, bus, taking, chipAfter, storeAfter, outAfter, answer}
 use Rattle.ds3231.specs.declared.Ds3231.{Ds3231}
+use Rattle.ds3231.specs.declared.Event.{Event}
 use Rattle.ds3231_bus.specs.declared.BusAnswer as BusAnswer
 use Rattle.ds3231_bus.specs.declared.TakeAnswer as TakeAnswer
 use Rattle.ds3231_bus.specs.declared.outcomes.Outcome.{Outcome}
 use Rattle.ds3231_bus.specs.declared.takings.Taking.{Taking}
 
-abbrev pub busNumbered : BusAnswer.BusAnswer → Numbered Reply
-busNumbered (BusAnswer.the-variants.Acknowledge b) = accepted (acknowledge b)
-busNumbered (BusAnswer.the-variants.Byte b) = accepted (byte b)
-busNumbered BusAnswer.the-variants.Done = accepted done
+abbrev pub busNumbered : BusAnswer.BusAnswer → Numbered Answered
+busNumbered (BusAnswer.the-variants.Replied y) = accepted (replied y)
 busNumbered BusAnswer.the-variants.NotSound = refused 10 []
 busNumbered BusAnswer.the-variants.StoreLength = refused 11 []
 
-abbrev pub takeNumbered : TakeAnswer.TakeAnswer → Numbered Reply
+abbrev pub takeNumbered : TakeAnswer.TakeAnswer → Numbered Answered
 takeNumbered (TakeAnswer.the-variants.Taken n) = accepted (copied n)
 takeNumbered TakeAnswer.the-variants.NotSound = refused 10 []
 takeNumbered TakeAnswer.the-variants.StoreLength = refused 11 []
@@ -48,10 +47,6 @@ pub record Took (c : Ds3231) (s o : List I2cDiagnostic) (a : TakeAnswer.TakeAnsw
 -- a bus call by value, with a store of len records
 abbrev pub OutcomeOn : Event → Ds3231 → ℕ → Outcome → Type 0
 OutcomeOn e c len r = OnStores len (r .write) (r .slot) (r .diagnostic) (λ s s′. Called e c s (r .answer) (r .chip) s′)
-
--- what a bus call leaves where the store does not have 256 records, whatever the event
-abbrev pub Refuses : Ds3231 → Outcome → Type 0
-Refuses c r = (e : Event) (len : ℕ) → (len ≡ 256 → ⊥) → OutcomeOn e c len r
 
 -- what a bus call leaves that writes no record
 pub record Unwritten (c : Ds3231) (a : BusAnswer.BusAnswer) (r : Outcome) : Type 0 where

@@ -1,19 +1,18 @@
 // The DS3231 as a target on the bus: the public calls take the chip by mutable reference and a lent store of 256 records.
 // Each is thin: it copies the chip out, asks a function by value what the call leaves (`outcomes`, `takings`), and stores
 // that. `I2cTarget` is a trait in the Rust; here its four calls are free functions.
-ghost use Rattle.ds3231.specs.Calls.{START, WRITE, READ, STOP};
+ghost use Rattle.ds3231.specs.declared.Event.the-variants.{Start, Write, Read, Stop};
 ghost use Rattle.ds3231_bus.specs.Answers.{Called, Took};
 use diagnostics::I2cDiagnostic;
 use ds3231::Ds3231;
+use ds3231::Reply;
 
 mod outcomes;
 mod takings;
 
-// What a bus call answers: START and WRITE an acknowledge, READ a byte.
+// What a bus call answers: the event's reply, or a refusal.
 pub enum BusAnswer {
-    Acknowledge(bool),
-    Byte(u8),
-    Done,
+    Replied(Reply),
     NotSound,
     // The store does not have 256 records.
     StoreLength,
@@ -37,7 +36,7 @@ pub fn address(
     read: bool,
     at: u64,
 ) -> BusAnswer
-    ensures { λ r. ⌜ Called (START address read at) (now (chip .entry)) (now (store .entry)) r (now (chip .exit)) (now (store .exit)) ⌝ }
+    ensures { λ r. ⌜ Called (Start address read at) (now (chip .entry)) (now (store .entry)) r (now (chip .exit)) (now (store .exit)) ⌝ }
 {
     let c = *chip;
     let out = outcomes::addressed(c, store.len(), address, read, at);
@@ -50,7 +49,7 @@ pub fn address(
 
 // WRITE: the pointer, or a byte to the register at the pointer.
 pub fn write(chip: &mut Ds3231, store: &mut [I2cDiagnostic], byte: u8, at: u64) -> BusAnswer
-    ensures { λ r. ⌜ Called (WRITE byte at) (now (chip .entry)) (now (store .entry)) r (now (chip .exit)) (now (store .exit)) ⌝ }
+    ensures { λ r. ⌜ Called (Write byte at) (now (chip .entry)) (now (store .entry)) r (now (chip .exit)) (now (store .exit)) ⌝ }
 {
     let c = *chip;
     let out = outcomes::written(c, store.len(), byte, at);
@@ -68,7 +67,7 @@ pub fn read(
     acknowledged: bool,
     at: u64,
 ) -> BusAnswer
-    ensures { λ r. ⌜ Called (READ acknowledged at) (now (chip .entry)) (now (store .entry)) r (now (chip .exit)) (now (store .exit)) ⌝ }
+    ensures { λ r. ⌜ Called (Read acknowledged at) (now (chip .entry)) (now (store .entry)) r (now (chip .exit)) (now (store .exit)) ⌝ }
 {
     let c = *chip;
     let out = outcomes::has_read(c, store.len(), acknowledged, at);
@@ -81,7 +80,7 @@ pub fn read(
 
 // STOP: it ends the transaction.
 pub fn stop(chip: &mut Ds3231, store: &mut [I2cDiagnostic], at: u64) -> BusAnswer
-    ensures { λ r. ⌜ Called (STOP at) (now (chip .entry)) (now (store .entry)) r (now (chip .exit)) (now (store .exit)) ⌝ }
+    ensures { λ r. ⌜ Called (Stop at) (now (chip .entry)) (now (store .entry)) r (now (chip .exit)) (now (store .exit)) ⌝ }
 {
     let c = *chip;
     let out = outcomes::stopped(c, store.len(), at);

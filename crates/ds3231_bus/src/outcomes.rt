@@ -1,13 +1,9 @@
 // The bus calls by value: what each leaves with a store of `len` records, and the record with its place in the store, if
 // one is written.
-ghost use mathlib.Core.List.{[]};
-ghost use mathlib.Core.Path.{_≡_};
-ghost use Rattle.refusals.specs.Numbered.{refused};
-ghost use Rattle.computed.specs.Choice.{if_then_else_};
-ghost use Rattle.ds3231.specs.Calls.{sound, Event, START, WRITE, READ, STOP};
-ghost use Rattle.ds3231_parts.specs.Answers.{reportsOf};
-ghost use Rattle.ds3231_step.specs.Answers.{eventNumbered, SteppedBy};
-ghost use Rattle.ds3231_bus.specs.Answers.{busNumbered, OutcomeOn, Refuses, Stores, Unwritten};
+ghost use Rattle.ds3231.specs.declared.Event.the-variants.{Start, Write, Read, Stop};
+ghost use Rattle.ds3231_step.specs.Answers.{reportsOf};
+ghost use Rattle.ds3231_bus.specs.Answers.{OutcomeOn, Stores, Unwritten};
+ghost use Rattle.ds3231_bus.specs.declared.BusAnswer.the-variants.{Replied};
 use crate::BusAnswer;
 use diagnostics::ChipName;
 use diagnostics::Diagnostics;
@@ -15,10 +11,11 @@ use diagnostics::I2cDiagnostic;
 use diagnostics::I2cDiagnosticKind;
 use diagnostics::MAX_DIAGNOSTICS;
 use ds3231::Ds3231;
-use ds3231_parts::Report;
-use ds3231_step::EventAnswer;
+use ds3231::Event;
+use ds3231_chip::is_sound;
+use ds3231_step::Report;
 use ds3231_step::Stepped;
-use ds3231_step::is_sound;
+use ds3231_step::step;
 
 // Where no record is written, `slot` is 0 and `diagnostic` is `no_diagnostic`'s.
 pub(crate) struct Outcome {
@@ -31,70 +28,58 @@ pub(crate) struct Outcome {
 
 // START, with a store of `len` records.
 pub(crate) fn addressed(chip: Ds3231, len: usize, address: u8, read: bool, at: u64) -> Outcome
-    ensures { λ r. ⌜ OutcomeOn (START address read at) chip len r ⌝ }
+    ensures { λ r. ⌜ OutcomeOn (Start address read at) chip len r ⌝ }
 {
-    kept(chip, len, ds3231_step::address(chip, address, read, at))
+    called(chip, len, Event::Start { address, read, at })
 }
 
 // WRITE, with a store of `len` records.
 pub(crate) fn written(chip: Ds3231, len: usize, byte: u8, at: u64) -> Outcome
-    ensures { λ r. ⌜ OutcomeOn (WRITE byte at) chip len r ⌝ }
+    ensures { λ r. ⌜ OutcomeOn (Write byte at) chip len r ⌝ }
 {
-    kept(chip, len, ds3231_step::write(chip, byte, at))
+    called(chip, len, Event::Write { byte, at })
 }
 
 // READ, with a store of `len` records.
 pub(crate) fn has_read(chip: Ds3231, len: usize, acknowledged: bool, at: u64) -> Outcome
-    ensures { λ r. ⌜ OutcomeOn (READ acknowledged at) chip len r ⌝ }
+    ensures { λ r. ⌜ OutcomeOn (Read acknowledged at) chip len r ⌝ }
 {
-    kept(chip, len, ds3231_step::read(chip, acknowledged, at))
+    called(chip, len, Event::Read { acknowledged, at })
 }
 
 // STOP, with a store of `len` records.
 pub(crate) fn stopped(chip: Ds3231, len: usize, at: u64) -> Outcome
-    ensures { λ r. ⌜ OutcomeOn (STOP at) chip len r ⌝ }
+    ensures { λ r. ⌜ OutcomeOn (Stop at) chip len r ⌝ }
 {
-    kept(chip, len, ds3231_step::stop(chip, at))
+    called(chip, len, Event::Stop { at })
 }
 
-// What is kept of an event: with a store that does not have 256 records, the chip before it.
-fn kept(before: Ds3231, len: usize, stepped: Stepped) -> Outcome
-    ensures { λ r. ⌜ ((e : Event) → SteppedBy e before stepped → OutcomeOn e before len r) ⌝ }
+// An event: refused with 10 where the chip is not sound, then with 11 where the store does not have 256 records.
+fn called(chip: Ds3231, len: usize, event: Event) -> Outcome
+    ensures { λ r. ⌜ OutcomeOn event chip len r ⌝ }
 {
-    let after = stepped.chip;
+    if !is_sound(chip) {
+        return unwritten(chip, BusAnswer::NotSound);
+    }
     if len != MAX_DIAGNOSTICS {
-        return refused(before);
+        return unwritten(chip, BusAnswer::StoreLength);
     }
-    let answer = stepped.answer;
-    let report = stepped.report;
-    stored(after, bus_answer(answer), report, before.diagnostics)
-}
-
-// A call whose store does not have 256 records: refused with 10 where the chip is not sound, else with 11.
-fn refused(chip: Ds3231) -> Outcome
-    ensures { λ r. ⌜ Refuses chip r ⌝ }
-{
-    unwritten(chip, refusal(chip))
-}
-
-fn refusal(chip: Ds3231) -> BusAnswer
-    ensures { λ r. ⌜ busNumbered r ≡ (if sound chip then refused 11 [] else refused 10 []) ⌝ }
-{
-    if is_sound(chip) {
-        return BusAnswer::StoreLength;
-    }
-    BusAnswer::NotSound
+    let counts = chip.diagnostics;
+    stored(step(chip, event), counts)
 }
 
 // The report is written at the waiting count before it, unless the store is full.
-fn stored(chip: Ds3231, answer: BusAnswer, report: Report, counts: Diagnostics) -> Outcome
-    ensures { λ r. ⌜ Stores chip answer (reportsOf report) counts r ⌝ }
+fn stored(stepped: Stepped, counts: Diagnostics) -> Outcome
+    ensures { λ r. ⌜ Stores (stepped .chip) (Replied (stepped .reply)) (reportsOf (stepped .report)) counts r ⌝ }
 {
+    let chip = stepped.chip;
+    let reply = stepped.reply;
+    let report = stepped.report;
     match report {
-        Report::None => unwritten(chip, answer),
+        Report::None => unwritten(chip, BusAnswer::Replied(reply)),
         Report::One(diagnostic) => Outcome {
             chip,
-            answer,
+            answer: BusAnswer::Replied(reply),
             write: counts.waiting < MAX_DIAGNOSTICS,
             slot: counts.waiting,
             diagnostic,
@@ -112,18 +97,6 @@ fn unwritten(chip: Ds3231, answer: BusAnswer) -> Outcome
         write: false,
         slot: 0,
         diagnostic: no_diagnostic(),
-    }
-}
-
-// The answer of an event, as a bus call gives it.
-fn bus_answer(answer: EventAnswer) -> BusAnswer
-    ensures { λ r. ⌜ busNumbered r ≡ eventNumbered answer ⌝ }
-{
-    match answer {
-        EventAnswer::Acknowledge(acknowledged) => BusAnswer::Acknowledge(acknowledged),
-        EventAnswer::Byte(byte) => BusAnswer::Byte(byte),
-        EventAnswer::Done => BusAnswer::Done,
-        EventAnswer::NotSound => BusAnswer::NotSound,
     }
 }
 

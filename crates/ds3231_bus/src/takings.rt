@@ -5,7 +5,7 @@ use crate::TakeAnswer;
 use diagnostics::Diagnostics;
 use diagnostics::MAX_DIAGNOSTICS;
 use ds3231::Ds3231;
-use ds3231_step::is_sound;
+use ds3231_chip::is_sound;
 
 pub(crate) struct Taking {
     pub(crate) chip: Ds3231,

@@ -1,2 +1,3 @@
-pub mod AnswerLaws
+pub mod ClockLaws
 pub mod RegisterLaws
+pub mod TimingLaws

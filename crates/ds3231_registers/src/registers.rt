@@ -1,9 +1,8 @@
-// The registers outside the time, 0x07 to 0x12: their bytes, and what a byte written to one makes of them.
+// The byte of a register, and what a byte written makes of the registers outside the time, 0x07 to 0x12.
 ghost use mathlib.Core.Path.{_≡_};
-ghost use Prim.Native.Nat.{_+_, _-_, _≤_, min};
+ghost use Prim.Native.Nat.{_+_, _-_, min};
 ghost use Rattle.computed.specs.Choice.{if_then_else_};
-ghost use Rattle.ds3231.specs.Registers.{converting, lowByte, temperatureHigh, temperatureLow, otherByte, enablesOutput, startsConversion, registersWritten, othersWritten};
-use ds3231::Phase;
+ghost use Rattle.ds3231.specs.Registers.{converting, lowByte, temperatureHigh, temperatureLow, otherByte, enablesOutput, startsConversion, byteAt, registersWritten};
 use ds3231::Registers;
 
 // The register map.
@@ -58,9 +57,20 @@ const NANOS_PER_MILLISECOND: u64 = 1_000_000;
 // How long a conversion keeps CONV and BSY set.
 const CONVERSION_NANOS: u64 = 200 * NANOS_PER_MILLISECOND;
 
+// The byte of a register, from the seven bytes of the time registers, live or latched.
+pub fn register_byte(time: [u8; 7], registers: Registers, register: u8, at: u64) -> u8
+    ensures { λ r. ⌜ r ≡ byteAt time registers register at ⌝ }
+{
+    if register <= YEAR {
+        let index = register as usize;
+        return time[index];
+    }
+    other_register(registers, register, at)
+}
+
 // A register outside the time: alarms, control, status, aging and temperature. Of a number below 0x07 it is the first
 // alarm byte, and of one above 0x12 the last register.
-pub fn other_register(registers: Registers, register: u8, at: u64) -> u8
+fn other_register(registers: Registers, register: u8, at: u64) -> u8
     ensures { λ r. ⌜ r ≡ otherByte registers register at ⌝ }
 {
     let converting = converting(registers, at);
@@ -128,7 +138,7 @@ fn converting(registers: Registers, at: u64) -> bool
 }
 
 // A byte written to a register. One of the time or of the temperature changes nothing here.
-fn write_register(registers: Registers, register: u8, byte: u8, at: u64) -> Registers
+pub fn write_register(registers: Registers, register: u8, byte: u8, at: u64) -> Registers
     ensures { λ r. ⌜ r ≡ registersWritten register byte at registers ⌝ }
 {
     let mut registers = registers;
@@ -198,17 +208,4 @@ pub fn enables_output(byte: u8) -> bool
 {
     let square_wave = byte & INTCN == 0;
     square_wave | (byte & (A1IE | A2IE) != 0)
-}
-
-// A byte written in a phase of the transaction.
-pub fn write(registers: Registers, phase: Phase, register: u8, byte: u8, at: u64) -> Registers
-    ensures { λ r. ⌜ r ≡ othersWritten phase register byte at registers ⌝ }
-{
-    match phase {
-        Phase::Pointer => registers,
-        Phase::Writing => write_register(registers, register, byte, at),
-        Phase::Ignoring => registers,
-        Phase::Released => registers,
-        Phase::Reading => registers,
-    }
 }

@@ -1,93 +1,21 @@
--- What the calls by value answer, in document 01's numbers, each by the cases of its enum, and what each call promises.
+-- What an event by value promises: the chip, the reply and the reports of a step.
 -- Assumes nothing.
-use Prim.Native.Nat.{ℕ}
-use mathlib.Core.Bool.{false}
-use mathlib.Core.List.{[], _∷_}
+use mathlib.Core.List.{List, [], _∷_}
 use mathlib.Core.Path.{_≡_}
-use lib.IntN.{pos}
-use lib.ListN.{replicate}
-use Rattle.refusals.specs.Numbered.{Numbered, accepted, refused, andThen, unless}
-use Rattle.calendar.specs.Answers.{refusedBy}
-use Rattle.calendar.specs.Stated.{dateTime}
-use Rattle.calendar.specs.declared.DateTime.{DateTime}
-use Rattle.ds3231.specs.Calls.{noPending, powerOn, checkedChip, Event, Reply, acknowledge, byte, done, step, stepChip}
+use Rattle.diagnostics.specs.declared.I2cDiagnostic.{I2cDiagnostic}
+use Rattle.ds3231.specs.Calls.{Step, stepChip}
 use Rattle.ds3231.specs.declared.Ds3231.{Ds3231}
-use Rattle.ds3231.specs.declared.Ds3231Config.{Ds3231Config}
-use Rattle.ds3231.specs.declared.Phase.the-variants.{Released}
-use Rattle.ds3231_parts.specs.Answers.{reportsOf}
-use Rattle.ds3231_step.specs.declared.PowerOnAnswer.{PowerOnAnswer}
-use Rattle.ds3231_step.specs.declared.PowerOnAnswer.the-variants.{On, Start, Temperature}
-use Rattle.ds3231_step.specs.declared.PowerOn.{PowerOn}
-use Rattle.ds3231_step.specs.declared.NowResult as NowResult
-use Rattle.ds3231_step.specs.declared.RegisterResult as RegisterResult
-use Rattle.ds3231_step.specs.declared.DroppedResult as DroppedResult
-use Rattle.ds3231_step.specs.declared.EventAnswer as EventAnswer
+use Rattle.ds3231_step.specs.declared.Report.{Report}
+use Rattle.ds3231_step.specs.declared.Report.the-variants.{None, One}
 use Rattle.ds3231_step.specs.declared.Stepped.{Stepped}
 
--- ---- power-on
+-- the reports of an event, as a list
+abbrev pub reportsOf : Report → List I2cDiagnostic
+reportsOf None = []
+reportsOf (One d) = d ∷ []
 
--- the chip of a refused power-on, which document 01 leaves free: it is not sound, so that every call on it gives 10
-abbrev pub noChip : Ds3231
-noChip = record {
-  timing = record {
-    phase = Released;
-    pointer = 0xFF;
-    clock = record { «base_seconds» = 0; «base_at» = 0; «weekday_offset» = 0 };
-    «twelve_hour» = false;
-    latched = replicate 7 0;
-    «is_pending» = false;
-    pending = noPending (dateTime 2000 1 1 0 0 0);
-  };
-  registers = record {
-    alarms = replicate 7 0;
-    control = 0;
-    status = 0;
-    «conversion_end» = 0;
-    aging = 0;
-    «temperature_quarters» = pos 0;
-    «int_sqw_reported» = false;
-  };
-  diagnostics = record { waiting = 0; dropped = 0 };
-}
-
-abbrev pub poweredAnswer : PowerOnAnswer → Ds3231 → Numbered Ds3231
-poweredAnswer On c = accepted c
-poweredAnswer (Start e) c = refusedBy e
-poweredAnswer (Temperature q) c = refused 7 (q ∷ [])
-
-abbrev pub poweredChip : Numbered Ds3231 → Ds3231
-poweredChip (accepted c) = c
-poweredChip (refused n vs) = noChip
-
-pub record PoweredOn (f : Ds3231Config) (r : PowerOn) : Type 0 where
-  pub answer : poweredAnswer (r .answer) (r .chip) ≡ powerOn f
-  pub chip : r .chip ≡ poweredChip (powerOn f)
-
--- ---- the calls that ask
-
-abbrev pub nowNumbered : NowResult.NowResult → Numbered DateTime
-nowNumbered (NowResult.the-variants.Ok t) = accepted t
-nowNumbered NowResult.the-variants.NotSound = refused 10 []
-
-abbrev pub registerNumbered : RegisterResult.RegisterResult → Numbered ℕ
-registerNumbered (RegisterResult.the-variants.Ok b) = accepted b
-registerNumbered RegisterResult.the-variants.NoSuchRegister = refused 9 []
-registerNumbered RegisterResult.the-variants.NotSound = refused 10 []
-
-abbrev pub droppedNumbered : DroppedResult.DroppedResult → Numbered ℕ
-droppedNumbered (DroppedResult.the-variants.Ok n) = accepted n
-droppedNumbered DroppedResult.the-variants.NotSound = refused 10 []
-
--- ---- the events
-
-abbrev pub eventNumbered : EventAnswer.EventAnswer → Numbered Reply
-eventNumbered (EventAnswer.the-variants.Acknowledge b) = accepted (acknowledge b)
-eventNumbered (EventAnswer.the-variants.Byte b) = accepted (byte b)
-eventNumbered EventAnswer.the-variants.Done = accepted done
-eventNumbered EventAnswer.the-variants.NotSound = refused 10 []
-
--- an event on a chip with no store: refusal 10, which changes nothing and reports nothing
-pub record SteppedBy (e : Event) (c : Ds3231) (r : Stepped) : Type 0 where
-  pub answer : eventNumbered (r .answer) ≡ andThen (checkedChip c) (accepted (step e c .reply))
-  pub chip : r .chip ≡ unless (checkedChip c) (stepChip (step e c) c) c
-  pub reports : reportsOf (r .report) ≡ unless (checkedChip c) (step e c .reports) []
+-- what the step s makes of the chip c
+pub record SteppedBy (s : Step) (c : Ds3231) (r : Stepped) : Type 0 where
+  pub chip : r .chip ≡ stepChip s c
+  pub reply : r .reply ≡ s .reply
+  pub reports : reportsOf (r .report) ≡ s .reports

@@ -1,138 +1,242 @@
-// The four events by value.
+// The four events, each on the whole chip and in the Rust's order of steps.
 ghost use mathlib.Core.Path.{_≡_};
-ghost use Rattle.fields.specs.Answers.{decodedMeaning};
-ghost use Rattle.ds3231.specs.Calls.{START, WRITE, READ, STOP, step, stepChip};
-ghost use Rattle.ds3231_parts.specs.Answers.{reportsOf};
-ghost use Rattle.ds3231_events.specs.Events.{eventAt, meaningOf};
-ghost use Rattle.ds3231_step.specs.Answers.{SteppedBy};
-use crate::EventAnswer;
+ghost use Rattle.ds3231.specs.Timing.{addressed as addressedBy};
+ghost use Rattle.ds3231.specs.Calls.{repliedOnly, started, written, hasRead, stopped, step as stepBy};
+ghost use Rattle.ds3231.specs.declared.Phase.the-variants.{Pointer, Writing};
+ghost use Rattle.diagnostics.specs.Reports.{countedAll};
+ghost use Rattle.ds3231_step.specs.Answers.{reportsOf, SteppedBy};
+use crate::Report;
 use crate::Stepped;
-use crate::sound::is_sound;
+use crate::reports::commit_report;
+use crate::reports::counted;
+use crate::reports::pointer_report;
+use crate::reports::register_report;
 use ds3231::Ds3231;
+use ds3231::Event;
+use ds3231::Phase;
+use ds3231::Reply;
 use ds3231::Timing;
-use ds3231_events::Event;
-use ds3231_events::events;
-use ds3231_parts::Report;
-use ds3231_parts::reports;
-use ds3231_parts::timing;
-use ds3231_parts::timing::ADDRESS;
-use ds3231_registers::answers;
-use fields::Decoded;
+use ds3231_registers::registers;
+use ds3231_registers::registers::LAST_REGISTER;
+use ds3231_registers::registers::YEAR;
+use ds3231_registers::timing;
+
+// The chip's address on the bus.
+const ADDRESS: u8 = 0x68;
+
+// What a READ gives where the chip leaves the line to its pull-up.
+const NOT_DRIVEN: u8 = 0xFF;
+
+// An event on any chip.
+pub fn step(chip: Ds3231, event: Event) -> Stepped
+    ensures { λ r. ⌜ SteppedBy (stepBy event chip) chip r ⌝ }
+{
+    match event {
+        Event::Start { address, read, at } => start(chip, address, read, at),
+        Event::Write { byte, at } => write(chip, byte, at),
+        Event::Read {
+            acknowledged: _,
+            at,
+        } => read(chip, at),
+        Event::Stop { at } => stop(chip, at),
+    }
+}
 
 // START: it ends the transaction before it and latches the time, whomever it addresses.
-pub fn address(chip: Ds3231, address: u8, read: bool, at: u64) -> Stepped
-    ensures { λ r. ⌜ SteppedBy (START address read at) chip r ⌝ }
-{
-    if !is_sound(chip) {
-        return not_sound(chip);
-    }
-    let answer = EventAnswer::Acknowledge(address == ADDRESS);
-    stepped(chip, Event::Start { address, read }, answer, at)
-}
-
-// WRITE: the pointer, or a byte to the register at the pointer.
-pub fn write(chip: Ds3231, byte: u8, at: u64) -> Stepped
-    ensures { λ r. ⌜ SteppedBy (WRITE byte at) chip r ⌝ }
-{
-    if !is_sound(chip) {
-        return not_sound(chip);
-    }
-    let timing = chip.timing;
-    let phase = timing.phase;
-    let answer = EventAnswer::Acknowledge(answers::acknowledged(phase));
-    stepped(chip, Event::Write { byte }, answer, at)
-}
-
-// READ: the byte at the pointer, 0xFF where the chip is not addressed for reading.
-pub fn read(chip: Ds3231, acknowledged: bool, at: u64) -> Stepped
-    ensures { λ r. ⌜ SteppedBy (READ acknowledged at) chip r ⌝ }
-{
-    if !is_sound(chip) {
-        return not_sound(chip);
-    }
-    let timing = chip.timing;
-    let registers = chip.registers;
-    let phase = timing.phase;
-    let latched = timing.latched;
-    let byte = answers::read_byte(phase, timing.pointer, latched, registers, at);
-    let answer = EventAnswer::Byte(byte);
-    stepped(chip, Event::Read { acknowledged }, answer, at)
-}
-
-// STOP: it ends the transaction.
-pub fn stop(chip: Ds3231, at: u64) -> Stepped
-    ensures { λ r. ⌜ SteppedBy (STOP at) chip r ⌝ }
-{
-    if !is_sound(chip) {
-        return not_sound(chip);
-    }
-    stepped(chip, Event::Stop, EventAnswer::Done, at)
-}
-
-fn not_sound(chip: Ds3231) -> Stepped
-    ensures { λ r. ⌜ r ≡ record { chip = chip; answer = EventAnswer.NotSound; report = Report.None } ⌝ }
-{
-    Stepped {
-        chip,
-        answer: EventAnswer::NotSound,
-        report: Report::None,
-    }
-}
-
-// What an event leaves of each part of the chip, its report counted.
-fn stepped(chip: Ds3231, event: Event, answer: EventAnswer, at: u64) -> Stepped
-    ensures { λ r. ⌜ (r .chip ≡ stepChip (step (eventAt event at) chip) chip) × (r .answer ≡ answer) × (reportsOf (r .report) ≡ step (eventAt event at) chip .reports) ⌝ }
+fn start(chip: Ds3231, address: u8, read: bool, at: u64) -> Stepped
+    ensures { λ r. ⌜ SteppedBy (started address read at chip) chip r ⌝ }
 {
     let before = chip.timing;
-    let phase = before.phase;
-    let pointer = before.pointer;
     let pending = before.pending;
-    let registers = chip.registers;
-    let counts = chip.diagnostics;
-    let decoded = events::decoded(event, phase, pointer);
-    let report = events::report(
-        event,
-        phase,
-        pointer,
-        timing::is_defined(decoded),
-        registers,
-        before.is_pending,
+    let report = commit_report(before, at);
+    let clock = timing::commit(before);
+    let latched = timing::shown(clock, before.twelve_hour, at);
+    let after = Timing {
+        phase: addressed(address, read),
+        pointer: before.pointer,
+        clock,
+        twelve_hour: before.twelve_hour,
+        latched,
+        is_pending: false,
         pending,
-        at,
-    );
-    let after = Ds3231 {
-        timing: timing_after(chip, event, decoded, at),
-        registers: events::registers_after(event, phase, pointer, registers, at),
-        diagnostics: reports::counted(counts, report),
+        pending_at: before.pending_at,
     };
     Stepped {
-        chip: after,
-        answer,
+        chip: with_timing(chip, after, report),
+        reply: Reply::Acknowledge(address == ADDRESS),
         report,
     }
 }
 
-// What an event leaves of the timing. `decoded` is what its byte means for the time.
-fn timing_after(chip: Ds3231, event: Event, decoded: Decoded, at: u64) -> Timing
-    requires { ⌜ decodedMeaning decoded ≡ meaningOf event (chip .timing .phase) (chip .timing .pointer) ⌝ }
-    ensures { λ r. ⌜ r ≡ step (eventAt event at) chip .timing ⌝ }
+// The phase after a START: only 0x68 is addressed.
+fn addressed(address: u8, read: bool) -> Phase
+    ensures { λ r. ⌜ r ≡ addressedBy address read ⌝ }
+{
+    if address != ADDRESS {
+        return Phase::Released;
+    }
+    if read { Phase::Reading } else { Phase::Pointer }
+}
+
+// WRITE: the pointer, or a byte to the register at the pointer.
+fn write(chip: Ds3231, byte: u8, at: u64) -> Stepped
+    ensures { λ r. ⌜ SteppedBy (written (chip .timing .phase) byte at chip) chip r ⌝ }
 {
     let timing = chip.timing;
     let phase = timing.phase;
-    let pointer = timing.pointer;
-    let is_pending = timing.is_pending;
-    let pending = timing.pending;
-    let before = timing.clock;
-    let clock = events::clock_after(event, is_pending, pending, before);
-    let twelve_hour = timing::mode_after(decoded, timing.twelve_hour);
-    let latched = timing.latched;
-    Timing {
-        phase: events::phase_after(event, phase),
-        pointer: events::pointer_after(event, phase, pointer),
+    match phase {
+        Phase::Pointer => write_pointer(chip, byte, at),
+        Phase::Writing => write_register(chip, byte, at),
+        Phase::Ignoring => only_reply(chip, Reply::Acknowledge(true)),
+        Phase::Released => only_reply(chip, Reply::Acknowledge(false)),
+        Phase::Reading => only_reply(chip, Reply::Acknowledge(false)),
+    }
+}
+
+// An event that changes and reports nothing.
+fn only_reply(chip: Ds3231, reply: Reply) -> Stepped
+    ensures { λ r. ⌜ SteppedBy (repliedOnly reply chip) chip r ⌝ }
+{
+    Stepped {
+        chip,
+        reply,
+        report: Report::None,
+    }
+}
+
+// The pointer byte: after one above 0x12 the bytes that follow are dropped.
+fn write_pointer(chip: Ds3231, byte: u8, at: u64) -> Stepped
+    ensures { λ r. ⌜ SteppedBy (written Pointer byte at chip) chip r ⌝ }
+{
+    let before = chip.timing;
+    let clock = before.clock;
+    let latched = before.latched;
+    let pending = before.pending;
+    let report = pointer_report(byte, at);
+    let mut phase = Phase::Ignoring;
+    let mut pointer = before.pointer;
+    if byte <= LAST_REGISTER {
+        phase = Phase::Writing;
+        pointer = byte;
+    }
+    let after = Timing {
+        phase,
+        pointer,
         clock,
-        twelve_hour,
-        latched: events::latched_after(event, phase, pointer, clock, twelve_hour, latched, at),
-        is_pending: events::pends_after(event, timing::is_defined(decoded), is_pending),
-        pending: timing::pending_after(decoded, is_pending, pending, clock, at),
+        twelve_hour: before.twelve_hour,
+        latched,
+        is_pending: before.is_pending,
+        pending,
+        pending_at: before.pending_at,
+    };
+    Stepped {
+        chip: with_timing(chip, after, report),
+        reply: Reply::Acknowledge(true),
+        report,
+    }
+}
+
+// A byte to the register at the pointer, which moves on.
+fn write_register(chip: Ds3231, byte: u8, at: u64) -> Stepped
+    ensures { λ r. ⌜ SteppedBy (written Writing byte at chip) chip r ⌝ }
+{
+    let before = chip.timing;
+    let counts = chip.diagnostics;
+    let register = before.pointer;
+    let decoded = fields::decode(register, byte);
+    let mut registers = chip.registers;
+    let report = register_report(timing::is_defined(decoded), registers, register, byte, at);
+    if register > YEAR {
+        registers = registers::write_register(registers, register, byte, at);
+    }
+    let after = Ds3231 {
+        timing: timing::accept(before, decoded, at),
+        registers,
+        diagnostics: counted(counts, report),
+    };
+    Stepped {
+        chip: after,
+        reply: Reply::Acknowledge(true),
+        report,
+    }
+}
+
+// READ: the byte at the pointer, which moves on, 0xFF where the chip is not addressed for reading.
+fn read(chip: Ds3231, at: u64) -> Stepped
+    ensures { λ r. ⌜ SteppedBy (hasRead (chip .timing .phase) at chip) chip r ⌝ }
+{
+    let before = chip.timing;
+    let phase = before.phase;
+    let clock = before.clock;
+    let pending = before.pending;
+    let registers = chip.registers;
+    let mut byte = NOT_DRIVEN;
+    let mut pointer = before.pointer;
+    let mut latched = before.latched;
+    match phase {
+        Phase::Reading => {
+            byte = registers::register_byte(latched, registers, pointer, at);
+            if pointer >= LAST_REGISTER {
+                latched = timing::shown(clock, before.twelve_hour, at);
+            }
+            pointer = timing::next(pointer);
+        }
+        Phase::Released => {}
+        Phase::Pointer => {}
+        Phase::Writing => {}
+        Phase::Ignoring => {}
+    }
+    let after = Timing {
+        phase,
+        pointer,
+        clock,
+        twelve_hour: before.twelve_hour,
+        latched,
+        is_pending: before.is_pending,
+        pending,
+        pending_at: before.pending_at,
+    };
+    Stepped {
+        chip: with_timing(chip, after, Report::None),
+        reply: Reply::Byte(byte),
+        report: Report::None,
+    }
+}
+
+// STOP: it ends the transaction.
+fn stop(chip: Ds3231, at: u64) -> Stepped
+    ensures { λ r. ⌜ SteppedBy (stopped at chip) chip r ⌝ }
+{
+    let before = chip.timing;
+    let pending = before.pending;
+    let latched = before.latched;
+    let report = commit_report(before, at);
+    let after = Timing {
+        phase: Phase::Released,
+        pointer: before.pointer,
+        clock: timing::commit(before),
+        twelve_hour: before.twelve_hour,
+        latched,
+        is_pending: false,
+        pending,
+        pending_at: before.pending_at,
+    };
+    Stepped {
+        chip: with_timing(chip, after, report),
+        reply: Reply::Done,
+        report,
+    }
+}
+
+// The chip with another timing, and the report counted.
+fn with_timing(chip: Ds3231, timing: Timing, report: Report) -> Ds3231
+    ensures { λ r. ⌜ r ≡ record { timing = timing; registers = chip .registers; diagnostics = countedAll (reportsOf report) (chip .diagnostics) } ⌝ }
+{
+    let registers = chip.registers;
+    let counts = chip.diagnostics;
+    Ds3231 {
+        timing,
+        registers,
+        diagnostics: counted(counts, report),
     }
 }

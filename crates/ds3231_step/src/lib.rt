@@ -1,69 +1,26 @@
-// The DS3231 by value: power-on, `now`, `register`, the dropped count, soundness, and the four events with no store.
-// Modules: `sound` has the soundness test, and `power`, `ask` and `events` the public calls. Each call tests the chip
-// and puts together what the functions of `ds3231_registers`, `ds3231_parts` and `ds3231_events` make of its parts.
-use calendar::DateTime;
-use calendar::DateTimeError;
+// The bus events of the DS3231 by value, one function each: START, WRITE, READ, STOP.
+// `step` is no call of document 01: it takes every chip and tests none, and it has no store. The calls of `ds3231_bus` and
+// the run of `script` go through it, after their tests.
+// To read it: `events` has the four functions, and `reports` what is reported. `specs/Answers.antt` says what they promise:
+// the step that `ds3231`'s definition `step` makes.
+use diagnostics::I2cDiagnostic;
 use ds3231::Ds3231;
-use ds3231_parts::Report;
+use ds3231::Reply;
 
-mod ask;
 mod events;
-mod power;
-mod sound;
+mod reports;
 
-pub use ask::dropped_diagnostics;
-pub use ask::now;
-pub use ask::register;
-pub use events::address;
-pub use events::read;
-pub use events::stop;
-pub use events::write;
-pub use power::power_on;
-pub use sound::is_sound;
+pub use events::step;
 
-// What power-on answers: on, or why not.
-pub enum PowerOnAnswer {
-    On,
-    Start(DateTimeError),
-    Temperature(i16),
+// What an event reports: at most one record.
+pub enum Report {
+    None,
+    One(I2cDiagnostic),
 }
 
-// Power-on's answer, with the chip. Where power-on is refused the chip is not sound.
-pub struct PowerOn {
-    pub answer: PowerOnAnswer,
-    pub chip: Ds3231,
-}
-
-// What `now` answers.
-pub enum NowResult {
-    Ok(DateTime),
-    NotSound,
-}
-
-// What `register` answers.
-pub enum RegisterResult {
-    Ok(u8),
-    NoSuchRegister,
-    NotSound,
-}
-
-// What `dropped_diagnostics` answers.
-pub enum DroppedResult {
-    Ok(u64),
-    NotSound,
-}
-
-// What an event answers: START and WRITE an acknowledge, READ a byte.
-pub enum EventAnswer {
-    Acknowledge(bool),
-    Byte(u8),
-    Done,
-    NotSound,
-}
-
-// The chip after an event, its answer and its report.
+// The chip after an event, its reply and its report.
 pub struct Stepped {
     pub chip: Ds3231,
-    pub answer: EventAnswer,
+    pub reply: Reply,
     pub report: Report,
 }

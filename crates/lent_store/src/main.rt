@@ -22,9 +22,10 @@ use diagnostics::I2cDiagnosticKind;
 use diagnostics::ReportAnswer;
 use ds3231::Ds3231;
 use ds3231::Ds3231Config;
+use ds3231::Reply;
 use ds3231_bus::BusAnswer;
 use ds3231_bus::TakeAnswer;
-use ds3231_step::power_on;
+use ds3231_chip::power_on;
 
 // The instant in a record that no report was written to.
 const NO_REPORT: u64 = 1_000;
@@ -64,7 +65,7 @@ fn begun() -> Session {
     Session {
         chip,
         store,
-        answer: BusAnswer::Done,
+        answer: BusAnswer::Replied(Reply::Done),
     }
 }
 
@@ -206,7 +207,7 @@ fn refused_call(session: Session) {
     let short = ShortSession {
         chip,
         store: [unwritten; 255],
-        answer: BusAnswer::Done,
+        answer: BusAnswer::Replied(Reply::Done),
     };
     let refused = write_short(short, values(0x00, 2));
     let answer = refused.answer;
@@ -245,11 +246,17 @@ fn read_back(session: Session) {
 
 fn print_answer(answer: BusAnswer) {
     match answer {
-        BusAnswer::Acknowledge(acknowledged) => line(b"acknowledge", acknowledged as u64),
-        BusAnswer::Byte(byte) => line(b"byte", byte as u64),
-        BusAnswer::Done => line(b"done", 0),
+        BusAnswer::Replied(reply) => print_reply(reply),
         BusAnswer::NotSound => line(b"refused", 10),
         BusAnswer::StoreLength => line(b"refused", 11),
+    }
+}
+
+fn print_reply(reply: Reply) {
+    match reply {
+        Reply::Acknowledge(acknowledged) => line(b"acknowledge", acknowledged as u64),
+        Reply::Byte(byte) => line(b"byte", byte as u64),
+        Reply::Done => line(b"done", 0),
     }
 }
 

@@ -12,11 +12,12 @@ use diagnostics::I2cDiagnostic;
 use diagnostics::I2cDiagnosticKind;
 use ds3231::Ds3231;
 use ds3231::Ds3231Config;
+use ds3231::Reply;
 use ds3231_bus::BusAnswer;
-use ds3231_step::DroppedResult;
-use ds3231_step::NowResult;
-use ds3231_step::PowerOnAnswer;
-use ds3231_step::RegisterResult;
+use ds3231_chip::DroppedResult;
+use ds3231_chip::NowResult;
+use ds3231_chip::PowerOnAnswer;
+use ds3231_chip::RegisterResult;
 
 pub(crate) fn on(record: [u8; 16]) -> Session {
     let start = record::time(record);
@@ -25,7 +26,7 @@ pub(crate) fn on(record: [u8; 16]) -> Session {
         oscillator_stopped: record::stopped(record),
         temperature_quarters: record::quarters(record),
     };
-    let powered = ds3231_step::power_on(config);
+    let powered = ds3231_chip::power_on(config);
     let answer = powered.answer;
     on_answer(answer);
     with_store(powered.chip)
@@ -33,7 +34,7 @@ pub(crate) fn on(record: [u8; 16]) -> Session {
 
 // The chip of a power-on, with a store.
 pub(crate) fn begun(config: Ds3231Config) -> Session {
-    let powered = ds3231_step::power_on(config);
+    let powered = ds3231_chip::power_on(config);
     with_store(powered.chip)
 }
 
@@ -43,7 +44,7 @@ fn with_store(chip: Ds3231) -> Session {
     Session {
         chip,
         store,
-        answer: BusAnswer::Done,
+        answer: BusAnswer::Replied(Reply::Done),
     }
 }
 
@@ -97,11 +98,17 @@ fn bit(record: [u8; 16], kind: u8) -> bool {
 
 fn event_answer(answer: BusAnswer) {
     match answer {
-        BusAnswer::Acknowledge(acknowledged) => text::bit(acknowledged),
-        BusAnswer::Byte(byte) => text::hex(byte),
-        BusAnswer::Done => text::bit(false),
+        BusAnswer::Replied(reply) => event_reply(reply),
         BusAnswer::NotSound => text::not_sound(),
         BusAnswer::StoreLength => text::refused(11),
+    }
+}
+
+fn event_reply(reply: Reply) {
+    match reply {
+        Reply::Acknowledge(acknowledged) => text::bit(acknowledged),
+        Reply::Byte(byte) => text::hex(byte),
+        Reply::Done => text::bit(false),
     }
 }
 
@@ -115,7 +122,7 @@ pub(crate) fn asked(record: [u8; 16], chip: Ds3231) {
 
 fn register(record: [u8; 16], chip: Ds3231) {
     let at = record::number8(record);
-    match ds3231_step::register(chip, record::byte(record), at) {
+    match ds3231_chip::register(chip, record::byte(record), at) {
         RegisterResult::Ok(byte) => text::hex(byte),
         RegisterResult::NoSuchRegister => text::refused(9),
         RegisterResult::NotSound => text::not_sound(),
@@ -123,14 +130,14 @@ fn register(record: [u8; 16], chip: Ds3231) {
 }
 
 fn now(record: [u8; 16], chip: Ds3231) {
-    match ds3231_step::now(chip, record::number8(record)) {
+    match ds3231_chip::now(chip, record::number8(record)) {
         NowResult::Ok(time) => text::time(time),
         NowResult::NotSound => text::not_sound(),
     }
 }
 
 fn dropped(chip: Ds3231) {
-    match ds3231_step::dropped_diagnostics(chip) {
+    match ds3231_chip::dropped_diagnostics(chip) {
         DroppedResult::Ok(count) => text::decimal(count),
         DroppedResult::NotSound => text::not_sound(),
     }

@@ -15,8 +15,9 @@ use Rattle.computed.specs.Choice.{if_then_else_}
 use Rattle.computed.proofs.Lossless.{lossless}
 use Rattle.diagnostics.specs.declared.I2cDiagnostic.{I2cDiagnostic}
 use Rattle.diagnostics.proofs.Counts.{stored-all-length}
-use Rattle.ds3231.specs.Calls.{sound, Event, step, bus, verdict, storeBy, storeAfter}
+use Rattle.ds3231.specs.Calls.{sound, step, bus, verdict, storeBy, storeAfter}
 use Rattle.ds3231.specs.declared.Ds3231.{Ds3231}
+use Rattle.ds3231.specs.declared.Event.{Event}
 use Rattle.ds3231.proofs.Sounds.{sound-kept}
 use Rattle.script.specs.Runs.{eventOf, Held, heldAt, answersTo, answerAt, runNumbered, recordOf}
 use Rattle.script.specs.declared.ScriptFault.{ScriptFault}

@@ -18,8 +18,8 @@ use Rattle.diagnostics.specs.declared.I2cDiagnostic.{I2cDiagnostic}
 use Rattle.ds3231.specs.Calls.{sound, inQuarters, checkedQuarters, chipOn, powerOn}
 use Rattle.ds3231.specs.declared.Ds3231.{Ds3231}
 use Rattle.ds3231.proofs.ExactTime.{power-on-sound}
-use Rattle.ds3231_step.specs.Answers.{poweredChip, PoweredOn}
-use Rattle.ds3231_step.specs.declared.PowerOn.{PowerOn}
+use Rattle.ds3231_chip.specs.Answers.{poweredChip, PoweredOn}
+use Rattle.ds3231_chip.specs.declared.PowerOn.{PowerOn}
 use Rattle.script.specs.Records.{recordsIn, checkedLength, checkedRecords}
 use Rattle.script.specs.Answers.{faultNumbered}
 use Rattle.script.specs.Runs.{Held, heldAt, answersTo, runNumbered, checkedRoom, checkedRun, verdictOn, runVerdict, clockrunConfig, clockrunHeld, Ran, RanOn, RanThrough, RanFrom}

@@ -13,13 +13,12 @@ use Rattle.calendar.specs.Stated.{dateTime}
 use Rattle.diagnostics.specs.Reports.{report}
 use Rattle.diagnostics.specs.declared.I2cDiagnostic.{I2cDiagnostic}
 use Rattle.diagnostics.specs.declared.I2cDiagnosticKind.the-variants.{ReadOnly}
-use Rattle.ds3231.specs.Calls.{sound, chipOn, Event, START, WRITE, READ, STOP, Reply, acknowledge, byte, done, copied, writeReply, bus, chipAfter, storeAfter, answer}
+use Rattle.ds3231.specs.Calls.{sound, chipOn, Answered, replied, copied, bus, chipAfter, storeAfter, answer}
 use Rattle.ds3231.specs.declared.Ds3231.{Ds3231}
 use Rattle.ds3231.specs.declared.Ds3231Config.{Ds3231Config}
-use Rattle.ds3231.specs.declared.Phase.{Phase}
-use Rattle.ds3231.specs.declared.Registers.{Registers}
-use Rattle.ds3231_registers.specs.Answers.{readByte}
-use Rattle.ds3231_events.specs.declared.Event as Event
+use Rattle.ds3231.specs.declared.Event.{Event}
+use Rattle.ds3231.specs.declared.Event.the-variants.{Start, Write, Read, Stop}
+use Rattle.ds3231.specs.declared.Reply as Reply
 use Rattle.script.specs.Records.{instantOf, kindOf, valueOf, recordsIn, checkedLength, checkedRecords}
 use Rattle.script.specs.Answers.{faultNumbered}
 use Rattle.script.specs.declared.runs.RunAnswer.{RunAnswer}
@@ -31,24 +30,27 @@ use Rattle.script.specs.declared.runs.RunOutcome.{RunOutcome}
 -- START's value is its address times 2 plus the read bit; WRITE's is the byte; READ's is 1 where the master acknowledges
 unfoldable pub eventBy : (kind value at : ℕ) → Event
 eventBy kind value at =
-    if eqb kind 0 then START (value / 2) (eqb (value % 2) 1) at
-    else if eqb kind 1 then WRITE value at
-    else if eqb kind 2 then READ (eqb value 1) at
-    else STOP at
+    if eqb kind 0 then Start (value / 2) (eqb (value % 2) 1) at
+    else if eqb kind 1 then Write value at
+    else if eqb kind 2 then Read (eqb value 1) at
+    else Stop at
 
 abbrev pub eventOf : List ℕ → ℕ → Event
 eventOf s i = eventBy (kindOf s i) (valueOf s i) (instantOf s i)
 
--- the byte of an answer: START and WRITE 1 or 0, READ the byte, STOP 0. No record takes, and no event of a run is refused
--- (`none-refused` in proofs/RunLaws.antt): the 0 that stands for those is left free
-abbrev pub replyByte : Reply → ℕ
-replyByte (acknowledge b) = if b then 1 else 0
-replyByte (byte b) = b
-replyByte done = 0
-replyByte (copied n) = 0
+-- the byte of a reply: START and WRITE 1 or 0, READ the byte, STOP 0
+abbrev pub replyByte : Reply.Reply → ℕ
+replyByte (Reply.the-variants.Acknowledge b) = if b then 1 else 0
+replyByte (Reply.the-variants.Byte b) = b
+replyByte Reply.the-variants.Done = 0
 
-abbrev pub answerByte : Numbered Reply → ℕ
-answerByte (accepted r) = replyByte r
+-- the byte of an answer. No record takes, and no event of a run is refused (`none-refused` in proofs/RunLaws.antt): the 0 that stands for those is left free
+abbrev pub answeredByte : Answered → ℕ
+answeredByte (replied y) = replyByte y
+answeredByte (copied n) = 0
+
+abbrev pub answerByte : Numbered Answered → ℕ
+answerByte (accepted a) = answeredByte a
 answerByte (refused n vs) = 0
 
 -- ---- the fold
@@ -156,13 +158,6 @@ pub record RanThrough (h : Held) (s : List ℕ) (r : RunOutcome) (a′ : List �
   pub chip : r .chip ≡ heldAt s h (recordsIn s) .chip
   pub store : r .records ≡ heldAt s h (recordsIn s) .store
   pub bytes : a′ ≡ answersTo s h (recordsIn s)
-
--- the answer byte to an event, from the parts of the chip that it depends on
-abbrev pub answerBy : Event.Event → Phase → ℕ → List ℕ → Registers → ℕ → ℕ
-answerBy (Event.the-variants.Start a r) p n bytes g t = replyByte (acknowledge (eqb a 0x68))
-answerBy (Event.the-variants.Write b) p n bytes g t = replyByte (writeReply p)
-answerBy (Event.the-variants.Read k) p n bytes g t = readByte p n bytes g t
-answerBy Event.the-variants.Stop p n bytes g t = 0
 
 -- how many records of a store of n are copied
 unfoldable pub wholeOf : ℕ → ℕ

@@ -4,9 +4,8 @@ ghost use Prim.Native.Nat.{_≤_, _+_, _*_};
 ghost use lib.ListN.{length};
 ghost use mathlib.Core.Bool.{true};
 ghost use Rattle.ds3231.specs.Calls.{sound};
-ghost use Rattle.ds3231_events.specs.Events.{eventAt};
-ghost use Rattle.script.specs.Records.{recordsIn, instantOf};
-ghost use Rattle.script.specs.Runs.{eventOf, answerBy, unwritten, runNumbered, checkedRun, verdictOn, checkedRoom, Ran, RanOn, RanFrom, RanThrough, wholeOf};
+ghost use Rattle.script.specs.Records.{recordsIn};
+ghost use Rattle.script.specs.Runs.{eventOf, replyByte, unwritten, runNumbered, checkedRun, verdictOn, checkedRoom, Ran, RanOn, RanFrom, RanThrough, wholeOf};
 use crate::CheckAnswer;
 use crate::RECORD;
 use crate::ScriptFault;
@@ -15,28 +14,17 @@ use crate::checks::check_records;
 use crate::records;
 use calendar::DateTime;
 use diagnostics::ChipName;
-use diagnostics::Diagnostics;
 use diagnostics::I2cDiagnostic;
 use diagnostics::I2cDiagnosticKind;
 use diagnostics::MAX_DIAGNOSTICS;
-use ds3231::Clock;
 use ds3231::Ds3231;
 use ds3231::Ds3231Config;
-use ds3231::PendingTime;
-use ds3231::Phase;
-use ds3231::Registers;
-use ds3231::Timing;
-use ds3231_events::Event;
-use ds3231_events::events;
-use ds3231_events::events::latched_after;
-use ds3231_events::events::report;
-use ds3231_parts::Report;
-use ds3231_parts::reports;
-use ds3231_parts::timing;
-use ds3231_parts::timing::ADDRESS;
-use ds3231_registers::answers;
-use ds3231_step::is_sound;
-use ds3231_step::power_on;
+use ds3231::Event;
+use ds3231::Reply;
+use ds3231_chip::is_sound;
+use ds3231_chip::power_on;
+use ds3231_step::Report;
+use ds3231_step::step;
 
 // What a run answers.
 pub enum RunAnswer {
@@ -198,8 +186,7 @@ fn checked_room(script: &[u8], room: usize) -> RunAnswer
     }
 }
 
-// Every record's event in turn, on a sound chip. The parts of the chip are local variables, so that an event writes only
-// those that it changes.
+// Every record's event in turn, on a sound chip.
 fn events(
     chip: Ds3231,
     mut records: [I2cDiagnostic; 256],
@@ -209,145 +196,60 @@ fn events(
     requires { ⌜ (length (now answers) ≡ recordsIn (now script)) × (sound chip ≡ true) ⌝ }
     ensures { λ r. ⌜ RanThrough (record { chip = chip; store = records }) (now (script .entry)) r (now (answers .exit)) ⌝ }
 {
-    let timing = chip.timing;
-    let mut phase = timing.phase;
-    let mut pointer = timing.pointer;
-    let mut clock = timing.clock;
-    let mut twelve_hour = timing.twelve_hour;
-    let mut latched = timing.latched;
-    let mut is_pending = timing.is_pending;
-    let mut pending = timing.pending;
-    let mut registers = chip.registers;
-    let mut counts = chip.diagnostics;
+    let mut chip = chip;
     let n = answers.len();
     let mut i = 0;
     while i < n {
-        let event = bus_event(script, i);
-        let at = records::instant(script, i);
-        answers[i] = answer_byte(event, phase, pointer, latched, registers, at);
-        let decoded = events::decoded(event, phase, pointer);
-        let defined = timing::is_defined(decoded);
-        let report = report(
-            event,
-            phase,
-            pointer,
-            defined,
-            registers,
-            is_pending,
-            pending,
-            at,
-        );
-        clock = events::clock_after(event, is_pending, pending, clock);
-        twelve_hour = timing::mode_after(decoded, twelve_hour);
-        if defined {
-            pending = timing::pending_after(decoded, is_pending, pending, clock, at);
-        }
-        is_pending = events::pends_after(event, defined, is_pending);
-        registers = events::registers_after(event, phase, pointer, registers, at);
-        let bytes = latched_after(event, phase, pointer, clock, twelve_hour, latched, at);
-        latched = bytes;
-        pointer = events::pointer_after(event, phase, pointer);
-        phase = events::phase_after(event, phase);
+        let counts = chip.diagnostics;
+        let stepped = step(chip, bus_event(script, i));
+        chip = stepped.chip;
+        let reply = stepped.reply;
+        answers[i] = answer_byte(reply);
+        let report = stepped.report;
         if let Report::One(diagnostic) = report {
             let slot = counts.waiting;
             if slot < MAX_DIAGNOSTICS {
                 records[slot] = diagnostic;
             }
         }
-        counts = reports::counted(counts, report);
         i += 1;
     }
-    let timing = timing_of(
-        phase,
-        pointer,
-        clock,
-        twelve_hour,
-        latched,
-        is_pending,
-        pending,
-    );
-    went_through(timing, registers, counts, records)
+    RunOutcome {
+        chip,
+        answer: RunAnswer::Done,
+        records,
+    }
 }
 
 // The event of record `i`.
 fn bus_event(script: &[u8], i: usize) -> Event
     requires { ⌜ 16 * i + 16 ≤ length (now script) ⌝ }
-    ensures { λ r. ⌜ eventAt r (instantOf (now (script .entry)) i) ≡ eventOf (now (script .entry)) i ⌝ }
+    ensures { λ r. ⌜ r ≡ eventOf (now (script .entry)) i ⌝ }
 {
+    let at = records::instant(script, i);
     let value = records::value(script, i);
     match records::kind(script, i) {
         0 => Event::Start {
             address: value / 2,
             read: value % 2 == 1,
+            at,
         },
-        1 => Event::Write { byte: value },
+        1 => Event::Write { byte: value, at },
         2 => Event::Read {
             acknowledged: value == 1,
+            at,
         },
-        _ => Event::Stop,
+        _ => Event::Stop { at },
     }
 }
 
 // START and WRITE 1 or 0, READ the byte, STOP 0.
-fn answer_byte(
-    event: Event,
-    phase: Phase,
-    pointer: u8,
-    latched: [u8; 7],
-    registers: Registers,
-    at: u64,
-) -> u8
-    ensures { λ r. ⌜ r ≡ answerBy event phase pointer latched registers at ⌝ }
+fn answer_byte(reply: Reply) -> u8
+    ensures { λ r. ⌜ r ≡ replyByte reply ⌝ }
 {
-    match event {
-        Event::Start { address, read: _ } => (address == ADDRESS) as u8,
-        Event::Write { byte: _ } => answers::acknowledged(phase) as u8,
-        Event::Read { acknowledged: _ } => {
-            answers::read_byte(phase, pointer, latched, registers, at)
-        }
-        Event::Stop => 0,
-    }
-}
-
-fn timing_of(
-    phase: Phase,
-    pointer: u8,
-    clock: Clock,
-    twelve_hour: bool,
-    latched: [u8; 7],
-    is_pending: bool,
-    pending: PendingTime,
-) -> Timing
-    ensures { λ r. ⌜ r ≡ record { phase = phase; pointer = pointer; clock = clock; «twelve_hour» = «twelve_hour»; latched = latched; «is_pending» = «is_pending»; pending = pending } ⌝ }
-{
-    Timing {
-        phase,
-        pointer,
-        clock,
-        twelve_hour,
-        latched,
-        is_pending,
-        pending,
-    }
-}
-
-// The outcome of a run that went through.
-fn went_through(
-    timing: Timing,
-    registers: Registers,
-    diagnostics: Diagnostics,
-    records: [I2cDiagnostic; 256],
-) -> RunOutcome
-    ensures { λ r. ⌜ r ≡ record { chip = record { timing = timing; registers = registers; diagnostics = diagnostics }; answer = RunAnswer.Done; records = records } ⌝ }
-{
-    let chip = Ds3231 {
-        timing,
-        registers,
-        diagnostics,
-    };
-    RunOutcome {
-        chip,
-        answer: RunAnswer::Done,
-        records,
+    match reply {
+        Reply::Acknowledge(acknowledged) => acknowledged as u8,
+        Reply::Byte(byte) => byte,
+        Reply::Done => 0,
     }
 }

@@ -1,7 +1,7 @@
 -- `ds3231_bus::outcomes::stored` meets its contract.
 -- Assumes nothing.
-use borrow.Author.Needs.{needs}
 use Rattle.ds3231_bus.proofs.OutcomeLaws.{stores-none, stores-one}
+use borrow.Author.Needs.{needs}
 use Rattle.ds3231_bus.proofs.outcomes.stored.Statement.{statement}
 use Rattle.ds3231_bus.proofs.outcomes.stored.Tie as tie
 

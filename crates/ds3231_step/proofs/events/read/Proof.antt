@@ -1,43 +1,67 @@
 -- `ds3231_step::events::read` meets its contract.
 -- Assumes nothing.
-use mathlib.Core.Path.{ap, _∙_}
-use Rattle.refusals.specs.Numbered.{accepted}
-use Rattle.ds3231.specs.Calls.{byte}
-use Rattle.ds3231_registers.proofs.AnswerLaws.{read-reply}
-use Rattle.ds3231_step.proofs.EventLaws.{checked-yes, checked-no, refused-step, done-step}
+use mathlib.Core.Logic.{⊎-elim}
+use mathlib.Core.Path.{refl}
+use borrow.Author.Tests.{le-leb, lt-leb}
+use Rattle.ds3231.specs.Calls.{hasRead}
+use Rattle.ds3231.specs.declared.Phase.{Phase}
+use Rattle.ds3231.specs.declared.Phase.the-variants.{Released, Pointer, Writing, Ignoring}
+use Rattle.ds3231_step.proofs.EventLaws.{stepped-at, not-driven}
 use borrow.Author.Needs.{needs}
 use Rattle.ds3231_step.proofs.events.read.Statement.{statement}
 use Rattle.ds3231_step.proofs.events.read.Tie as tie
 
-is-sound-requires : tie.Need-is-sound-requires
-is-sound-requires c κs = search needs
+enum-told : tie.Need-enum-told
+enum-told c = search needs
 
-not-sound-requires : tie.Need-not-sound-requires
-not-sound-requires c κs = search needs
+register-byte-requires : tie.Need-register-byte-requires
+register-byte-requires c κs = search needs
+
+shown-requires : tie.Need-shown-requires
+shown-requires c κs = search needs
+
+next-requires : tie.Need-next-requires
+next-requires c κs = search needs
+
+enum-told-2 : tie.Need-enum-told-2
+enum-told-2 c = search needs
+
+enum-told-3 : tie.Need-enum-told-3
+enum-told-3 c = search needs
+
+enum-told-4 : tie.Need-enum-told-4
+enum-told-4 c = search needs
+
+enum-told-5 : tie.Need-enum-told-5
+enum-told-5 c = search needs
+
+with-timing-requires : tie.Need-with-timing-requires
+with-timing-requires c κs = search needs
 
 returns : tie.Need-returns
-returns c = refused-step _ _ _ (checked-no _ _ (c .before .before .is-sound .ensures) (c .before .if1 .taken)) (c .not-sound .ensures)
-
-read-byte-requires : tie.Need-read-byte-requires
-read-byte-requires c κs = search needs
-
-stepped-requires : tie.Need-stepped-requires
-stepped-requires c κs = search needs
-
-returns-2 : tie.Need-returns-2
-returns-2 c =
-    let b = c .before .before .before .before .before in
-    let a = b .before .before .args in
-    done-step _ _ _ _ (checked-yes _ _ (b .before .is-sound .ensures) (b .if1 .left)) (c .stepped .ensures)
-    (ap accepted (ap byte (c .before .read-byte .ensures) ∙ read-reply (a .chip .timing .phase) (a .at) (a .chip)))
+returns c =
+    let a = c .before .before .before .before .before .before .before .args in
+    ⊎-elim
+    (λ w. stepped-at (λ (p : Phase). hasRead p (a .at) (a .chip)) _ _ (w .1 .given .1)
+    (⊎-elim
+    (λ v. record { chip = rw (c .with-timing .ensures, w .6, w .7, w .4 .ensures, v .2, v .1 .ensures, le-leb _ _ (v .0 .taken)); reply = rw (w .5, w .2 .ensures); reports = refl })
+    (λ v. record { chip = rw (c .with-timing .ensures, w .6, w .7, w .4 .ensures, v .1, lt-leb _ _ (v .0 .left)); reply = rw (w .5, w .2 .ensures); reports = refl }) (w .3 .came)))
+    (⊎-elim (λ w. not-driven Released _ _ _ refl (w .1 .given .1) (rw (c .with-timing .ensures, w .2, w .3, w .4)))
+    (⊎-elim (λ w. not-driven Pointer _ _ _ refl (w .1 .given .1) (rw (c .with-timing .ensures, w .2, w .3, w .4)))
+    (⊎-elim (λ w. not-driven Writing _ _ _ refl (w .1 .given .1) (rw (c .with-timing .ensures, w .2, w .3, w .4)))
+    (λ w. not-driven Ignoring _ _ _ refl (w .1 .given .1) (rw (c .with-timing .ensures, w .2, w .3, w .4)))))) (c .before .match .came)
 
 pub read-spec : {M : Type 1} → statement M
 read-spec =
     tie.close
     (tie.spec
-    is-sound-requires
-    not-sound-requires
-    returns
-    read-byte-requires
-    stepped-requires
-    returns-2)
+    enum-told
+    register-byte-requires
+    shown-requires
+    next-requires
+    enum-told-2
+    enum-told-3
+    enum-told-4
+    enum-told-5
+    with-timing-requires
+    returns)

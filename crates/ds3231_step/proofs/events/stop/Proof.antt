@@ -1,28 +1,22 @@
 -- `ds3231_step::events::stop` meets its contract.
 -- Assumes nothing.
 use mathlib.Core.Path.{refl}
-use Rattle.ds3231_step.proofs.EventLaws.{checked-yes, checked-no, refused-step, done-step}
 use borrow.Author.Needs.{needs}
 use Rattle.ds3231_step.proofs.events.stop.Statement.{statement}
 use Rattle.ds3231_step.proofs.events.stop.Tie as tie
 
-is-sound-requires : tie.Need-is-sound-requires
-is-sound-requires c κs = search needs
+commit-report-requires : tie.Need-commit-report-requires
+commit-report-requires c κs = search needs
 
-not-sound-requires : tie.Need-not-sound-requires
-not-sound-requires c κs = search needs
+commit-requires : tie.Need-commit-requires
+commit-requires c κs = search needs
+
+with-timing-requires : tie.Need-with-timing-requires
+with-timing-requires c κs = search needs
 
 returns : tie.Need-returns
-returns c = refused-step _ _ _ (checked-no _ _ (c .before .before .is-sound .ensures) (c .before .if1 .taken)) (c .not-sound .ensures)
-
-stepped-requires : tie.Need-stepped-requires
-stepped-requires c κs = search needs
-
-returns-2 : tie.Need-returns-2
-returns-2 c =
-    let b = c .before in
-    done-step _ _ _ _ (checked-yes _ _ (b .before .is-sound .ensures) (b .if1 .left)) (c .stepped .ensures) refl
+returns c = record { chip = rw (c .with-timing .ensures, c .before .commit .ensures, c .before .before .commit-report .ensures); reply = refl; reports = c .before .before .commit-report .ensures }
 
 pub stop-spec : {M : Type 1} → statement M
 stop-spec =
-    tie.close (tie.spec is-sound-requires not-sound-requires returns stepped-requires returns-2)
+    tie.close (tie.spec commit-report-requires commit-requires with-timing-requires returns)

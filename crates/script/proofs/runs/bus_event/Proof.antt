@@ -5,6 +5,9 @@ use borrow.Author.Needs.{needs}
 use Rattle.script.proofs.runs.bus_event.Statement.{statement}
 use Rattle.script.proofs.runs.bus_event.Tie as tie
 
+instant-requires : tie.Need-instant-requires
+instant-requires c κs = search needs
+
 value-requires : tie.Need-value-requires
 value-requires c κs = search needs
 
@@ -12,17 +15,17 @@ kind-requires : tie.Need-kind-requires
 kind-requires c κs = search needs
 
 returns : tie.Need-returns
-returns c = is-start _ _ _ _ _ (c .before .kind .ensures) (c .before .before .value .ensures) (c .match .keys1)
+returns c = is-start _ _ _ _ _ _ (c .before .kind .ensures) (c .before .before .value .ensures) (c .before .before .before .instant .ensures) (c .match .keys1)
 
 returns-2 : tie.Need-returns-2
-returns-2 c = is-write _ _ _ _ _ (c .before .kind .ensures) (c .before .before .value .ensures) (c .match .keys2)
+returns-2 c = is-write _ _ _ _ _ _ (c .before .kind .ensures) (c .before .before .value .ensures) (c .before .before .before .instant .ensures) (c .match .keys2)
 
 returns-3 : tie.Need-returns-3
-returns-3 c = is-read _ _ _ _ _ (c .before .kind .ensures) (c .before .before .value .ensures) (c .match .keys3)
+returns-3 c = is-read _ _ _ _ _ _ (c .before .kind .ensures) (c .before .before .value .ensures) (c .before .before .before .instant .ensures) (c .match .keys3)
 
 returns-4 : tie.Need-returns-4
-returns-4 c = is-stop _ _ _ _ _ (c .before .kind .ensures) (c .before .before .value .ensures) (c .match .rest .0 .0 .1) (c .match .rest .0 .1) (c .match .rest .1)
+returns-4 c = is-stop _ _ _ _ _ _ (c .before .kind .ensures) (c .before .before .value .ensures) (c .before .before .before .instant .ensures) (c .match .rest .0 .0 .1) (c .match .rest .0 .1) (c .match .rest .1)
 
 pub bus-event-spec : {M : Type 1} → statement M
 bus-event-spec =
-    tie.close (tie.spec value-requires kind-requires returns returns-2 returns-3 returns-4)
+    tie.close (tie.spec instant-requires value-requires kind-requires returns returns-2 returns-3 returns-4)

@@ -1,4 +1,0 @@
-pub mod ClockLaws
-pub mod Lossless
-pub mod TimingLaws
-pub mod WrittenLaws

@@ -1,0 +1,20 @@
+-- `ds3231_registers::timing::opened` meets its contract.
+-- Assumes nothing.
+use borrow.Author.Needs.{needs}
+use Rattle.ds3231_registers.proofs.timing.opened.Statement.{statement}
+use Rattle.ds3231_registers.proofs.timing.opened.Tie as tie
+
+returns : tie.Need-returns
+returns c = search needs
+
+now-requires : tie.Need-now-requires
+now-requires c κs = search needs
+
+weekday-requires : tie.Need-weekday-requires
+weekday-requires c κs = search needs
+
+returns-2 : tie.Need-returns-2
+returns-2 c = rw (c .weekday .ensures, c .before .now .ensures, c .before .before .before .if1 .left)
+
+pub opened-spec : {M : Type 1} → statement M
+opened-spec = tie.close (tie.spec returns now-requires weekday-requires returns-2)

@@ -18,7 +18,7 @@ use Rattle.diagnostics.specs.declared.I2cDiagnostic.{I2cDiagnostic}
 use Rattle.ds3231.specs.Clock.{secondsAt, offsetFor}
 use Rattle.ds3231.specs.Timing.{shownAt, latch, pointed, inPhase}
 use Rattle.ds3231.specs.Registers.{otherByte}
-use Rattle.ds3231.specs.Calls.{inQuarters, sound, timingOn, chipOn, checkedQuarters, powerOn, registerAnswer, written, hasRead, step, stepChip, replied, Call, bus, taking, lentStore, tooShort, verdict, chipBy, chipAfter, replyBy, answer}
+use Rattle.ds3231.specs.Calls.{inQuarters, sound, timingOn, chipOn, checkedQuarters, powerOn, registerAnswer, written, hasRead, step, stepChip, replied, Call, bus, taking, lentStore, tooShort, verdict, chipBy, chipAfter, answeredBy, answer}
 use Rattle.ds3231.specs.Model.{reads, Model, wrapsIn, wraps, fed, modelOn}
 use Rattle.ds3231.specs.Exact.{chipAfterAll, eventsBy, events, fullyLent, modelAfter, Mark, markWith, markBy, modelBy, markAfter, instant, NeverFall, lastInstant, chip, model, mark, ReadsTime, Holds, ExactTime}
 use Rattle.ds3231.specs.declared.Phase.{Phase}
@@ -218,7 +218,7 @@ power-on-sound f c₀ e =
 read-answer : (s : List I2cDiagnostic) (k : Bool) (t : ℕ) (c : Ds3231) → verdict (bus s (Read k t)) c ≡ accepted tt → c .timing .phase ≡ Reading → c .timing .pointer ≤ 0x06
     → answer (bus s (Read k t)) c ≡ accepted (replied (Byte (getD (c .timing .latched) (c .timing .pointer) 0)))
 read-answer s k t c v p r =
-    ap (λ (x : Numbered (Unit {0})). andThen x (accepted (replyBy (bus s (Read k t)) c))) v
+    ap (λ (x : Numbered (Unit {0})). andThen x (accepted (answeredBy (bus s (Read k t)) c))) v
     ∙ ap (λ (x : Phase). accepted (replied (hasRead x t c .reply))) p
     ∙ ap (λ (e : Bool). accepted (replied (Byte (if e then getD (c .timing .latched) (c .timing .pointer) 0 else otherByte (c .registers) (c .timing .pointer) t)))) (le-leb _ _ r)
 

@@ -121,7 +121,7 @@ registerAnswer c r t = andThen (checkedChip c) (if leb r 0x12 then accepted (reg
 
 -- ---- the bus events
 
--- what an event makes of timing and registers, the reports that it makes, and its answer
+-- what an event makes of timing and registers, the reports that it makes, and its reply
 pub record Step : Type 0 where
   pub timing : Timing
   pub registers : Registers
@@ -246,9 +246,9 @@ abbrev pub outBy : Call → Chip.Ds3231 → List I2cDiagnostic
 outBy (bus s e) c = []
 outBy (taking s o) c = take (c .diagnostics .waiting) s ++ drop (c .diagnostics .waiting) o
 
-abbrev pub replyBy : Call → Chip.Ds3231 → Answered
-replyBy (bus s e) c = replied (step e c .reply)
-replyBy (taking s o) c = copied (c .diagnostics .waiting)
+abbrev pub answeredBy : Call → Chip.Ds3231 → Answered
+answeredBy (bus s e) c = replied (step e c .reply)
+answeredBy (taking s o) c = copied (c .diagnostics .waiting)
 
 -- the output that a call is lent
 abbrev pub lentOut : Call → List I2cDiagnostic
@@ -266,4 +266,4 @@ abbrev pub outAfter : Call → Chip.Ds3231 → List I2cDiagnostic
 outAfter k c = unless (verdict k c) (outBy k c) (lentOut k)
 
 abbrev pub answer : Call → Chip.Ds3231 → Numbered Answered
-answer k c = andThen (verdict k c) (accepted (replyBy k c))
+answer k c = andThen (verdict k c) (accepted (answeredBy k c))

@@ -17,7 +17,7 @@ use ds3231_step::Report;
 use ds3231_step::Stepped;
 use ds3231_step::step;
 
-// Where no record is written, `slot` is 0 and `diagnostic` is `no_diagnostic`'s.
+// What `slot` and `diagnostic` hold where no record is written is left free.
 pub(crate) struct Outcome {
     pub(crate) chip: Ds3231,
     pub(crate) answer: BusAnswer,

@@ -1,5 +1,5 @@
-// The DS3231 by value: power-on, soundness, and the calls that ask: `now`, `register` and the dropped count. Each call tests
-// the chip for itself.
+// The DS3231 by value: power-on, soundness, and the calls that ask, each of which tests the chip for itself: `now`,
+// `register` and the dropped count.
 // Modules: `power`, `sound` and `ask`. `specs/Answers.antt` has what the calls answer in document 01's numbers.
 use calendar::DateTime;
 use calendar::DateTimeError;

@@ -64,7 +64,7 @@ pub fn accept(timing: Timing, decoded: Decoded, at: u64) -> Timing
     if let Decoded::Defined(field) = decoded {
         twelve_hour = changed_mode(field, twelve_hour);
         is_pending = true;
-        pending = noted(field, opened(timing, at));
+        pending = noted(field, pending_time(timing, at));
         pending_at = begins_at(field, timing, at);
     }
     Timing {
@@ -91,7 +91,7 @@ pub fn next(register: u8) -> u8
 }
 
 // The pending time that a byte finds: the first one finds the clock's time and weekday.
-fn opened(timing: Timing, at: u64) -> PendingTime
+fn pending_time(timing: Timing, at: u64) -> PendingTime
     ensures { λ r. ⌜ r ≡ (if timing .«is_pending» then timing .pending else openedAt (timing .clock) at) ⌝ }
 {
     if timing.is_pending {

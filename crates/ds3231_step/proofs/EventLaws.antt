@@ -1,7 +1,12 @@
--- A step that is chosen by a value, known to be another: the phase of a WRITE and a READ, and the event; and a READ that finds the chip not addressed for reading.
+-- A step that is chosen by a value, known to be another: the phase of a WRITE and a READ, and the event; a READ that finds the chip not addressed for reading; and where the pointer goes to 0.
 -- Assumes nothing.
-use Prim.Native.Nat.{ℕ}
+use Prim.Native.Nat.{ℕ, _+_}
+use mathlib.Core.Bool.{Bool, true, false}
 use mathlib.Core.Path.{_≡_, refl, sym, subst}
+use native.Mathlib.Omega.{arith}
+use lib.Dec.{leb}
+use Rattle.computed.specs.Choice.{if_then_else_}
+use Rattle.ds3231.specs.Timing.{nextPointer}
 use Rattle.ds3231.specs.Calls.{Step, repliedOnly, hasRead}
 use Rattle.ds3231.specs.declared.Ds3231.{Ds3231}
 use Rattle.ds3231.specs.declared.Phase.{Phase}
@@ -18,3 +23,18 @@ pub not-driven : (p : Phase) (t : ℕ) (c : Ds3231) (r : Stepped) → hasRead p 
 not-driven p t c r n e q =
     stepped-at (λ (x : Phase). hasRead x t c) c r e
     (subst (λ (s : Step). SteppedBy s c r) (sym n) (subst (SteppedBy (repliedOnly (Byte 0xFF) c) c) (sym q) (record { chip = refl; reply = refl; reports = refl })))
+
+-- the pointer goes to 0 from 0x12 alone
+pub wraps : (r n : ℕ) → n ≡ nextPointer r → n ≡ 0 → leb 0x12 r ≡ true
+wraps r n e z = by (leb 0x12 r) e
+  where
+    by : (b : Bool) → n ≡ (if b then 0 else r + 1) → b ≡ true
+    by true h = refl
+    by false h = absurd (omega arith)
+
+pub goes-on : (r n : ℕ) → n ≡ nextPointer r → (n ≡ 0 → ⊥) → leb 0x12 r ≡ false
+goes-on r n e z = by (leb 0x12 r) e
+  where
+    by : (b : Bool) → n ≡ (if b then 0 else r + 1) → b ≡ false
+    by true h = absurd (z h)
+    by false h = refl

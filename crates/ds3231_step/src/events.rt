@@ -1,4 +1,4 @@
-// The four events, each on the whole chip and in the Rust's order of steps.
+// The four events, each on the whole chip, as the Rust has them.
 ghost use mathlib.Core.Path.{_≡_};
 ghost use Rattle.ds3231.specs.Timing.{addressed as addressedBy};
 ghost use Rattle.ds3231.specs.Calls.{repliedOnly, started, written, hasRead, stopped, step as stepBy};
@@ -18,6 +18,7 @@ use ds3231::Reply;
 use ds3231::Timing;
 use ds3231_registers::registers;
 use ds3231_registers::registers::LAST_REGISTER;
+use ds3231_registers::registers::SECONDS;
 use ds3231_registers::registers::YEAR;
 use ds3231_registers::timing;
 
@@ -48,7 +49,6 @@ fn start(chip: Ds3231, address: u8, read: bool, at: u64) -> Stepped
 {
     let before = chip.timing;
     let pending = before.pending;
-    let report = commit_report(before, at);
     let clock = timing::commit(before);
     let latched = timing::shown(clock, before.twelve_hour, at);
     let after = Timing {
@@ -61,6 +61,7 @@ fn start(chip: Ds3231, address: u8, read: bool, at: u64) -> Stepped
         pending,
         pending_at: before.pending_at,
     };
+    let report = commit_report(before, at);
     Stepped {
         chip: with_timing(chip, after, report),
         reply: Reply::Acknowledge(address == ADDRESS),
@@ -112,7 +113,6 @@ fn write_pointer(chip: Ds3231, byte: u8, at: u64) -> Stepped
     let clock = before.clock;
     let latched = before.latched;
     let pending = before.pending;
-    let report = pointer_report(byte, at);
     let mut phase = Phase::Ignoring;
     let mut pointer = before.pointer;
     if byte <= LAST_REGISTER {
@@ -129,6 +129,7 @@ fn write_pointer(chip: Ds3231, byte: u8, at: u64) -> Stepped
         pending,
         pending_at: before.pending_at,
     };
+    let report = pointer_report(byte, at);
     Stepped {
         chip: with_timing(chip, after, report),
         reply: Reply::Acknowledge(true),
@@ -176,10 +177,10 @@ fn read(chip: Ds3231, at: u64) -> Stepped
     match phase {
         Phase::Reading => {
             byte = registers::register_byte(latched, registers, pointer, at);
-            if pointer >= LAST_REGISTER {
+            pointer = timing::next(pointer);
+            if pointer == SECONDS {
                 latched = timing::shown(clock, before.twelve_hour, at);
             }
-            pointer = timing::next(pointer);
         }
         Phase::Released => {}
         Phase::Pointer => {}
@@ -210,7 +211,6 @@ fn stop(chip: Ds3231, at: u64) -> Stepped
     let before = chip.timing;
     let pending = before.pending;
     let latched = before.latched;
-    let report = commit_report(before, at);
     let after = Timing {
         phase: Phase::Released,
         pointer: before.pointer,
@@ -221,6 +221,7 @@ fn stop(chip: Ds3231, at: u64) -> Stepped
         pending,
         pending_at: before.pending_at,
     };
+    let report = commit_report(before, at);
     Stepped {
         chip: with_timing(chip, after, report),
         reply: Reply::Done,

@@ -14,7 +14,7 @@ use Rattle.diagnostics.specs.Reports.{storedAll}
 use Rattle.diagnostics.specs.declared.Diagnostics.{Diagnostics}
 use Rattle.diagnostics.specs.declared.I2cDiagnostic.{I2cDiagnostic}
 use Rattle.diagnostics.proofs.Counts.{stored-all-length}
-use Rattle.ds3231.specs.Calls.{sound, bus, step, stepChip, chipBy, storeBy, replyBy}
+use Rattle.ds3231.specs.Calls.{sound, bus, step, stepChip, chipBy, storeBy, answeredBy}
 use Rattle.ds3231.specs.declared.Ds3231.{Ds3231}
 use Rattle.ds3231.specs.declared.Event.{Event}
 use Rattle.ds3231_step.specs.Answers.{reportsOf, SteppedBy}
@@ -64,7 +64,7 @@ module _ (h : Held) (s : List ℕ) where
     next-store = sym (ap (λ (v : Numbered (Unit {0})). unless v (storeBy (bus (heldAt s h i .store) event) (heldAt s h i .chip)) (heldAt s h i .store)) (none-refused s h ok full i))
 
     next-answer : replyByte (step event (heldAt s h i .chip) .reply) ≡ answerAt s h i
-    next-answer = sym (ap (λ (v : Numbered (Unit {0})). answerByte (andThen v (accepted (replyBy (bus (heldAt s h i .store) event) (heldAt s h i .chip))))) (none-refused s h ok full i))
+    next-answer = sym (ap (λ (v : Numbered (Unit {0})). answerByte (andThen v (accepted (answeredBy (bus (heldAt s h i .store) event) (heldAt s h i .chip))))) (none-refused s h ok full i))
 
   pub turn : (n i : ℕ) (c : Ds3231) (rs : List I2cDiagnostic) (a : List ℕ) → Through h s n i c rs a → i < n
       → (e : Event) → e ≡ eventOf s i → (p : Stepped) → SteppedBy (step e c) c p

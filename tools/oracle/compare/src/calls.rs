@@ -1,4 +1,4 @@
-//! Lists of calls: every answer of the program `compare_calls` against the Rust's.
+//! Lists of calls: every answer of the program `compare` against the Rust's.
 
 use std::slice::SplitInclusive;
 
@@ -11,7 +11,7 @@ use crate::family::Item;
 use crate::tally::{Difference, Tally};
 
 /// How lists are sent, and their answers titled.
-pub const FORM: Form<Vec<Call>> = Form { word: "list", add: |list, file| add_list(list, file) };
+pub const FORM: Form<Vec<Call>> = Form { kind: 0, word: "list", add: |list, file| add_list(list, file) };
 
 /// Compares the answers to a list with the Rust's.
 ///

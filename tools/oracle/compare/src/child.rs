@@ -9,11 +9,13 @@ use std::thread;
 use crate::family::Item;
 use crate::tally::Tally;
 
-/// The bytes of the longest block that the programs take.
-const LONGEST: usize = 65_536;
+/// The bytes of the longest file of items that the program takes in a block, beside the block's kind.
+const LONGEST: usize = 65_535;
 
-/// What a program is fed and how it titles its answers.
+/// What the program is fed and how it titles its answers.
 pub struct Form<I> {
+    /// The first byte of a block.
+    pub kind: u8,
     /// The word of an item's title: `list` or `script`.
     pub word: &'static str,
     /// Adds an item to a file.
@@ -41,7 +43,7 @@ pub fn run<I: Send>(
     let sections = Sections { output: Some(BufReader::with_capacity(1 << 18, output)), word: form.word, title: None };
     let (sender, receiver) = channel();
     let more = thread::scope(|scope| {
-        scope.spawn(|| feed(items, form.add, input, sender));
+        scope.spawn(|| feed(items, form, input, sender));
         judge_all(receiver, sections, judge, tally)
     });
     if more {
@@ -61,7 +63,7 @@ fn spawned(program: &Path) -> std::io::Result<Child> {
 /// Writes the items in blocks. A write that fails is not reported: its items then have no answer.
 fn feed<I>(
     items: impl Iterator<Item = Item<I>>,
-    add: fn(&I, &mut Vec<u8>),
+    form: &Form<I>,
     mut input: ChildStdin,
     sender: Sender<Vec<Item<I>>>,
 ) {
@@ -69,23 +71,23 @@ fn feed<I>(
     let mut block = Vec::new();
     for item in items {
         let mut bytes = Vec::new();
-        add(&item.input, &mut bytes);
+        (form.add)(&item.input, &mut bytes);
         assert!(bytes.len() <= LONGEST, "{}, item {}, fits no block", item.family, item.number);
         if file.len() + bytes.len() > LONGEST {
-            send(std::mem::take(&mut block), &std::mem::take(&mut file), &mut input, &sender);
+            send(std::mem::take(&mut block), form.kind, &std::mem::take(&mut file), &mut input, &sender);
         }
         file.extend(bytes);
         block.push(item);
     }
-    send(block, &file, &mut input, &sender);
+    send(block, form.kind, &file, &mut input, &sender);
 }
 
 /// Sends a block's items to be judged, then writes the block. Sending waits for nothing, so that a program which answers
 /// late is fed on; one that answers holds the feeder to its own pace.
-fn send<I>(block: Vec<Item<I>>, file: &[u8], input: &mut ChildStdin, sender: &Sender<Vec<Item<I>>>) {
+fn send<I>(block: Vec<Item<I>>, kind: u8, file: &[u8], input: &mut ChildStdin, sender: &Sender<Vec<Item<I>>>) {
     if sender.send(block).is_ok() {
-        let length = u32::try_from(file.len()).expect("a block is short").to_le_bytes();
-        let _ = input.write_all(&length).and_then(|()| input.write_all(file));
+        let length = u32::try_from(1 + file.len()).expect("a block is short").to_le_bytes();
+        let _ = input.write_all(&length).and_then(|()| input.write_all(&[kind])).and_then(|()| input.write_all(file));
     }
 }
 

@@ -20,15 +20,15 @@ const LEAST_SCRIPTS: u64 = 100_000;
 
 fn main() -> ExitCode {
     let arguments: Vec<String> = std::env::args().skip(1).collect();
-    let [seed, calls_program, scripts_program] = &arguments[..] else {
-        return failed("usage: compare SEED COMPARE_CALLS COMPARE_SCRIPTS");
+    let [seed, program] = &arguments[..] else {
+        return failed("usage: compare SEED PROGRAM");
     };
     let Ok(seed) = seed.parse() else {
         return failed("SEED is a number below 2^64");
     };
     println!("seed {seed}");
     let mut tally = Tally::new(seed);
-    if let Err(error) = compare(seed, Path::new(calls_program), Path::new(scripts_program), &mut tally) {
+    if let Err(error) = compare(seed, Path::new(program), &mut tally) {
         tally.fault(&error);
     }
     verdict(&mut tally)
@@ -39,9 +39,9 @@ fn failed(error: &str) -> ExitCode {
     ExitCode::FAILURE
 }
 
-fn compare(seed: u64, calls_program: &Path, scripts_program: &Path, tally: &mut Tally) -> Result<(), String> {
-    child::run(calls_program, &calls::FORM, family::items(family::lists(seed)), calls::judge, tally)?;
-    child::run(scripts_program, &scripts::FORM, family::items(family::scripts(seed)), scripts::judge, tally)
+fn compare(seed: u64, program: &Path, tally: &mut Tally) -> Result<(), String> {
+    child::run(program, &calls::FORM, family::items(family::lists(seed)), calls::judge, tally)?;
+    child::run(program, &scripts::FORM, family::items(family::scripts(seed)), scripts::judge, tally)
 }
 
 /// Prints what was compared and what differs; success where nothing differs.

@@ -1,4 +1,4 @@
-//! Scripts: the listing of the program `compare_scripts` and the archive's C calls against the Rust.
+//! Scripts: the listing of the program `compare` and the archive's C calls against the Rust.
 
 use oracle::file::add_script;
 use oracle::script;
@@ -9,7 +9,7 @@ use crate::family::Item;
 use crate::tally::{Difference, Tally};
 
 /// How scripts are sent, and their listings titled.
-pub const FORM: Form<Vec<u8>> = Form { word: "script", add: |script, file| add_script(script, file) };
+pub const FORM: Form<Vec<u8>> = Form { kind: 1, word: "script", add: |script, file| add_script(script, file) };
 
 /// Compares the listing of a script, and what the archive's calls answer to it, with the Rust's.
 pub fn judge(item: &Item<Vec<u8>>, listing: &[u8], tally: &mut Tally) {

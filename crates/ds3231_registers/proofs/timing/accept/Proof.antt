@@ -12,8 +12,8 @@ enum-known-decoded c = search needs
 changed-mode-requires : tie.Need-changed-mode-requires
 changed-mode-requires c κs = search needs
 
-opened-requires : tie.Need-opened-requires
-opened-requires c κs = search needs
+pending-time-requires : tie.Need-pending-time-requires
+pending-time-requires c κs = search needs
 
 noted-requires : tie.Need-noted-requires
 noted-requires c κs = search needs
@@ -39,7 +39,7 @@ accept-spec =
     (tie.spec
     enum-known-decoded
     changed-mode-requires
-    opened-requires
+    pending-time-requires
     noted-requires
     begins-at-requires
     enum-told

@@ -23,18 +23,12 @@ with-timing-requires c κs = search needs
 returns : tie.Need-returns
 returns c =
     record {
-      chip = rw (c .with-timing .ensures, c .before .addressed .ensures, c .before .before .shown .ensures, c .before .before .before .commit .ensures, c .before .before .before .before .commit-report .ensures);
+      chip = rw (c .with-timing .ensures, c .before .commit-report .ensures, c .before .before .addressed .ensures, c .before .before .before .shown .ensures, c .before .before .before .before .commit .ensures);
       reply = refl;
-      reports = c .before .before .before .before .commit-report .ensures;
+      reports = c .before .commit-report .ensures;
     }
 
 pub start-spec : {M : Type 1} → statement M
 start-spec =
     tie.close
-    (tie.spec
-    commit-report-requires
-    commit-requires
-    shown-requires
-    addressed-requires
-    with-timing-requires
-    returns)
+    (tie.spec commit-requires shown-requires addressed-requires commit-report-requires with-timing-requires returns)

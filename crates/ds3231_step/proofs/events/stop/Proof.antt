@@ -15,8 +15,8 @@ with-timing-requires : tie.Need-with-timing-requires
 with-timing-requires c κs = search needs
 
 returns : tie.Need-returns
-returns c = record { chip = rw (c .with-timing .ensures, c .before .commit .ensures, c .before .before .commit-report .ensures); reply = refl; reports = c .before .before .commit-report .ensures }
+returns c = record { chip = rw (c .with-timing .ensures, c .before .commit-report .ensures, c .before .before .commit .ensures); reply = refl; reports = c .before .commit-report .ensures }
 
 pub stop-spec : {M : Type 1} → statement M
 stop-spec =
-    tie.close (tie.spec commit-report-requires commit-requires with-timing-requires returns)
+    tie.close (tie.spec commit-requires commit-report-requires with-timing-requires returns)

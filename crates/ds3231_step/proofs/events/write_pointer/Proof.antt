@@ -15,10 +15,10 @@ with-timing-requires c κs = search needs
 
 returns : tie.Need-returns
 returns c =
-    let p = c .before .before .pointer-report .ensures in
+    let p = c .before .pointer-report .ensures in
     ⊎-elim
     (λ w. record { chip = rw (c .with-timing .ensures, p, w .1, w .2, le-leb _ _ (w .0 .taken)); reply = refl; reports = p })
-    (λ w. record { chip = rw (c .with-timing .ensures, p, w .1, w .2, lt-leb _ _ (w .0 .left)); reply = refl; reports = p }) (c .before .if1 .came)
+    (λ w. record { chip = rw (c .with-timing .ensures, p, w .1, w .2, lt-leb _ _ (w .0 .left)); reply = refl; reports = p }) (c .before .before .if1 .came)
 
 pub write-pointer-spec : {M : Type 1} → statement M
 write-pointer-spec = tie.close (tie.spec pointer-report-requires with-timing-requires returns)

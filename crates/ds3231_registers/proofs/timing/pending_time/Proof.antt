@@ -1,8 +1,8 @@
--- `ds3231_registers::timing::opened` meets its contract.
+-- `ds3231_registers::timing::pending_time` meets its contract.
 -- Assumes nothing.
 use borrow.Author.Needs.{needs}
-use Rattle.ds3231_registers.proofs.timing.opened.Statement.{statement}
-use Rattle.ds3231_registers.proofs.timing.opened.Tie as tie
+use Rattle.ds3231_registers.proofs.timing.pending_time.Statement.{statement}
+use Rattle.ds3231_registers.proofs.timing.pending_time.Tie as tie
 
 returns : tie.Need-returns
 returns c = search needs
@@ -16,5 +16,5 @@ weekday-requires c κs = search needs
 returns-2 : tie.Need-returns-2
 returns-2 c = rw (c .weekday .ensures, c .before .now .ensures, c .before .before .before .if1 .left)
 
-pub opened-spec : {M : Type 1} → statement M
-opened-spec = tie.close (tie.spec returns now-requires weekday-requires returns-2)
+pub pending-time-spec : {M : Type 1} → statement M
+pending-time-spec = tie.close (tie.spec returns now-requires weekday-requires returns-2)

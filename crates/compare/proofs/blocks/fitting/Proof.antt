@@ -1,4 +1,4 @@
--- `blocks::fitting` meets its contract.
+-- `compare::blocks::fitting` meets its contract.
 -- Assumes nothing.
 use Prim.Native.Nat.{ℕ, _≤_}
 use mathlib.Core.List.{List}
@@ -7,8 +7,8 @@ use lib.ListN.{length}
 use lib.Seq.{length-take-le}
 use borrow.Author.Needs.{needs}
 use Rattle.io.specs.Counts.{Counts}
-use Rattle.blocks.proofs.fitting.Statement.{statement}
-use Rattle.blocks.proofs.fitting.Tie as tie
+use Rattle.compare.proofs.blocks.fitting.Statement.{statement}
+use Rattle.compare.proofs.blocks.fitting.Tie as tie
 
 counts : (n : ℕ) (xs : List ℕ) → n ≤ length xs → Counts n xs
 counts n xs h = (h, sym (length-take-le n xs h))

@@ -1,11 +1,11 @@
--- `compare_scripts::main` is safe and ends: the blocks that may still come get fewer.
+-- `compare::main` is safe and ends: the blocks that may still come get fewer.
 -- Assumes nothing.
 use Prim.Native.Nat.{_-_, _≤_}
 use mathlib.Core.Path.{_≡_}
 use lib.ListN.{length}
 use borrow.Author.Needs.{needs}
-use Rattle.compare_scripts.proofs.main.Statement.{statement}
-use Rattle.compare_scripts.proofs.main.Tie as tie
+use Rattle.compare.proofs.main.Statement.{statement}
+use Rattle.compare.proofs.main.Tie as tie
 
 abbrev Inv-loop : tie.InvT-loop
 Inv-loop block₀ counter₀ block counter = (counter ≤ 4294967295) × (65536 ≡ length block)
@@ -31,11 +31,11 @@ returns c = search needs
 array-share-prefix-block : tie.Need-array-share-prefix-block Inv-loop μ-loop
 array-share-prefix-block c = search needs
 
-slice-aggregate-replay : tie.Need-slice-aggregate-replay Inv-loop μ-loop
-slice-aggregate-replay c = search needs
+slice-aggregate-answer : tie.Need-slice-aggregate-answer Inv-loop μ-loop
+slice-aggregate-answer c = search needs
 
-replay-requires : tie.Need-replay-requires Inv-loop μ-loop
-replay-requires c κs = search needs
+answer-requires : tie.Need-answer-requires Inv-loop μ-loop
+answer-requires c κs = search needs
 
 add-counter : tie.Need-add-counter Inv-loop μ-loop
 add-counter c = search needs
@@ -61,8 +61,8 @@ main-spec =
     read-requires
     returns
     array-share-prefix-block
-    slice-aggregate-replay
-    replay-requires
+    slice-aggregate-answer
+    answer-requires
     add-counter
     loop-less
     loop-again

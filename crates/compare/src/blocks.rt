@@ -7,7 +7,7 @@ const HEADER: usize = 4;
 
 // Reads a block to the start of `block` and answers its length; 0 at the end of the input, and for a block that is
 // longer than `block`.
-pub fn read(block: &mut [u8]) -> usize
+pub(crate) fn read(block: &mut [u8]) -> usize
     ensures { λ r. ⌜ Counts r (now (block .exit)) ⌝ }
 {
     let length = fitting(length(), block);

@@ -29,18 +29,19 @@ fn main() {
     match words[..] {
         [] => table(),
         ["count", side, kind, times] => count(side, kind, times.parse().expect("a number")),
-        _ => eprintln!("usage: bench [count library|rust KIND TIMES]"),
+        _ => eprintln!("usage: bench [count library|used|rust KIND TIMES]"),
     }
 }
 
-/// Runs one side so often on a script of 2,048 records.
+/// Runs one side so often on a script of 2,048 records: `used` is this library's run with its chip and store read.
 fn count(side: &str, kind: &str, times: usize) {
     let (_, make) = KINDS.iter().find(|(name, _)| *name == kind).expect("a kind of script");
     let script = make(2048);
     let mut answers = vec![0; 2048];
-    let run = if side == "library" { sides::library_run } else { sides::rust_run };
-    for _ in 0..times {
-        assert_eq!(run(black_box(&script), &mut answers), 0);
+    match side {
+        "library" => repeat(times, || assert_eq!(sides::library_run(black_box(&script), &mut answers), 0)),
+        "used" => repeat(times, || sides::library_digest(black_box(&script), &mut answers)),
+        _ => repeat(times, || assert_eq!(sides::rust_run(black_box(&script), &mut answers), 0)),
     }
 }
 
@@ -52,6 +53,9 @@ fn table() {
         for records in LENGTHS {
             runs(name, &make(records), records);
         }
+    }
+    for (name, make) in KINDS {
+        used(name, &make(2048), 2048);
     }
     for (name, make) in KINDS {
         unchecked(name, &make(2048), 2048);
@@ -71,6 +75,15 @@ fn runs(name: &str, script: &[u8], records: usize) {
     let library = || sides::library_run(black_box(script), black_box(&mut ours));
     let rust = || sides::rust_run(black_box(script), black_box(&mut theirs));
     row(&format!("run, {name}"), records, library, rust);
+    assert_eq!(ours, theirs, "the answers differ");
+}
+
+/// The whole run with its chip and store read after it. The Rust's run keeps both: `black_box` is lent the chip.
+fn used(name: &str, script: &[u8], records: usize) {
+    let (mut ours, mut theirs) = (vec![0; records], vec![0; records]);
+    let library = || sides::library_digest(black_box(script), black_box(&mut ours));
+    let rust = || sides::rust_run(black_box(script), black_box(&mut theirs));
+    row(&format!("run, {name}; chip and store read"), records, library, rust);
     assert_eq!(ours, theirs, "the answers differ");
 }
 
@@ -105,7 +118,7 @@ fn conversions() {
 }
 
 /// Times both sides in turn on `size` items and prints how many millions each does in a second, by the medians.
-fn row<A>(name: &str, size: usize, mut library: impl FnMut() -> A, mut rust: impl FnMut() -> A) {
+fn row<A, B>(name: &str, size: usize, mut library: impl FnMut() -> A, mut rust: impl FnMut() -> B) {
     let (mut ours, mut theirs) = (Vec::new(), Vec::new());
     for _ in 0..ROUNDS {
         ours.push(round(size, &mut library));
@@ -119,10 +132,14 @@ fn row<A>(name: &str, size: usize, mut library: impl FnMut() -> A, mut rust: imp
 fn round<A>(size: usize, side: &mut impl FnMut() -> A) -> f64 {
     let times = PER_ROUND / size;
     let from = Instant::now();
+    repeat(times, side);
+    from.elapsed().as_secs_f64() * 1e9 / (times * size) as f64
+}
+
+fn repeat<A>(times: usize, mut side: impl FnMut() -> A) {
     for _ in 0..times {
         black_box(side());
     }
-    from.elapsed().as_secs_f64() * 1e9 / (times * size) as f64
 }
 
 fn median(mut times: Vec<f64>) -> f64 {

@@ -11,6 +11,7 @@ mod library {
     unsafe extern "C" {
         pub fn clock_script_check(script: *const u8, length: usize) -> u32;
         pub fn clock_script_run(script: *const u8, length: usize, answers: *mut u8, answers_length: usize) -> u32;
+        pub fn clock_script_digest(script: *const u8, length: usize, answers: *mut u8, answers_length: usize) -> u64;
         pub fn clock_date_from_seconds(seconds: u64) -> u64;
         pub fn clock_seconds_from_date(year: u16, month: u8, day: u8, hour: u8, minute: u8, second: u8) -> u64;
     }
@@ -26,6 +27,12 @@ pub fn library_check(script: &[u8]) -> u32 {
 pub fn library_run(script: &[u8], answers: &mut [u8]) -> u32 {
     // SAFETY: the pointers and the lengths are those of two slices that do not overlap.
     unsafe { library::clock_script_run(script.as_ptr(), script.len(), answers.as_mut_ptr(), answers.len()) }
+}
+
+/// The same run, whose chip and store are then read: a number that every field of both counts in.
+pub fn library_digest(script: &[u8], answers: &mut [u8]) -> u64 {
+    // SAFETY: the pointers and the lengths are those of two slices that do not overlap.
+    unsafe { library::clock_script_digest(script.as_ptr(), script.len(), answers.as_mut_ptr(), answers.len()) }
 }
 
 /// This library's date of a number of seconds.

@@ -1,4 +1,4 @@
--- The number of a chip and its store: every field of both as a number, all joined by exclusive or. A change of one field alone changes it.
+-- The number of a chip and its store: every field of both as a number, all joined by exclusive or.
 -- Assumes nothing.
 use Prim.Native.Nat.{ℕ, zero, suc, _+_, _*_, _-_}
 use mathlib.Core.Bool.{Bool}

@@ -61,12 +61,7 @@ fn spawned(program: &Path) -> std::io::Result<Child> {
 }
 
 /// Writes the items in blocks. A write that fails is not reported: its items then have no answer.
-fn feed<I>(
-    items: impl Iterator<Item = Item<I>>,
-    form: &Form<I>,
-    mut input: ChildStdin,
-    sender: Sender<Vec<Item<I>>>,
-) {
+fn feed<I>(items: impl Iterator<Item = Item<I>>, form: &Form<I>, mut input: ChildStdin, sender: Sender<Vec<Item<I>>>) {
     let mut file = Vec::new();
     let mut block = Vec::new();
     for item in items {

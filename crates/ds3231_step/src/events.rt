@@ -147,6 +147,7 @@ fn write_register(chip: Ds3231, byte: u8, at: u64) -> Stepped
     let decoded = fields::decode(register, byte);
     let mut registers = chip.registers;
     let report = register_report(timing::is_defined(decoded), registers, register, byte, at);
+    // A byte at a time register leaves the other registers.
     if register > YEAR {
         registers = registers::write_register(registers, register, byte, at);
     }

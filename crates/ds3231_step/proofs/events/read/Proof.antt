@@ -46,10 +46,10 @@ returns c =
     let r : Stepped = record { chip = c .with-timing .result; reply = Byte (c .before .match .byte); report = None } in
     ⊎-elim
     (λ w. stepped-at (λ (p : Phase). hasRead p (a .at) (a .chip)) (a .chip) r (w .1 .given .1)
-    (record { chip = rw (c .with-timing .ensures, w .7, w .8, w .5 .ensures, w .3 .ensures, wraps _ _ (w .3 .ensures) (w .4 .taken)); reply = rw (w .6, w .2 .ensures); reports = refl }))
+    (record { chip = rw (c .with-timing .ensures, w .7, w .8, w .5 .ensures, w .3 .ensures, wraps (a .chip .timing .pointer) (w .3 .result) (w .3 .ensures) (w .4 .taken)); reply = rw (w .6, w .2 .ensures); reports = refl }))
     (⊎-elim
     (λ w. stepped-at (λ (p : Phase). hasRead p (a .at) (a .chip)) (a .chip) r (w .1 .given .1)
-    (record { chip = rw (c .with-timing .ensures, w .6, w .7, w .3 .ensures, goes-on _ _ (w .3 .ensures) (w .4 .left)); reply = rw (w .5, w .2 .ensures); reports = refl }))
+    (record { chip = rw (c .with-timing .ensures, w .6, w .7, w .3 .ensures, goes-on (a .chip .timing .pointer) (w .3 .result) (w .3 .ensures) (w .4 .left)); reply = rw (w .5, w .2 .ensures); reports = refl }))
     (⊎-elim (λ w. not-driven Released _ _ _ refl (w .1 .given .1) (rw (c .with-timing .ensures, w .2, w .3, w .4)))
     (⊎-elim (λ w. not-driven Pointer _ _ _ refl (w .1 .given .1) (rw (c .with-timing .ensures, w .2, w .3, w .4)))
     (⊎-elim (λ w. not-driven Writing _ _ _ refl (w .1 .given .1) (rw (c .with-timing .ensures, w .2, w .3, w .4)))

@@ -11,7 +11,8 @@ use borrow.Author.Tests.{ltb-true, lt-ltb, le-ltb, eq-eqb, ne-eqb}
 use Rattle.refusals.specs.Numbered.{accepted, refused}
 use Rattle.refusals.proofs.Checks.{accepted-leaves, refused-leaves}
 use Rattle.diagnostics.specs.Reports.{counted}
-use Rattle.diagnostics.specs.Lent.{reportNumbered, reportVerdict, ReportedOn}
+use Rattle.diagnostics.specs.Lent.{reportNumbered, reportVerdict}
+use Rattle.diagnostics.specs.ByValue.{ReportedOnStores}
 use Rattle.diagnostics.specs.declared.I2cDiagnostic.{I2cDiagnostic}
 use Rattle.diagnostics.specs.declared.Diagnostics.{Diagnostics}
 use Rattle.diagnostics.specs.declared.ReportAnswer.{ReportAnswer}
@@ -21,9 +22,9 @@ use Rattle.diagnostics.specs.declared.ReportOutcome.{ReportOutcome}
 module _ (n : Diagnostics) (d : I2cDiagnostic) (len : ℕ) where
   -- a refusal leaves counts and store, whatever its number
   refuses : (a : ReportAnswer) (number : ℕ) → reportNumbered a ≡ refused number [] → ((s : List I2cDiagnostic) → length s ≡ len → reportVerdict n s ≡ refused number []) → (r : ReportOutcome)
-      → r ≡ record { counts = n; answer = a; write = false; slot = 0; diagnostic = d } → ReportedOn n len d r
+      → r ≡ record { counts = n; answer = a; write = false; slot = 0; diagnostic = d } → ReportedOnStores n len d r
   refuses a number p v r q =
-      subst (λ (o : ReportOutcome). ReportedOn n len d o) (sym q) (record {
+      subst (λ (o : ReportOutcome). ReportedOnStores n len d o) (sym q) (record {
         did = λ s l. record {
           answer = p ∙ sym (v s l);
           counts = refused-leaves _ number [] _ n (v s l);
@@ -32,13 +33,13 @@ module _ (n : Diagnostics) (d : I2cDiagnostic) (len : ℕ) where
         within = λ w. let z : _≡_ {A = ℕ} 0 1 = cc in omega (arith, z);
       })
 
-  pub not-sound : 256 < n .waiting → (r : ReportOutcome) → r ≡ record { counts = n; answer = NotSound; write = false; slot = 0; diagnostic = d } → ReportedOn n len d r
+  pub not-sound : 256 < n .waiting → (r : ReportOutcome) → r ≡ record { counts = n; answer = NotSound; write = false; slot = 0; diagnostic = d } → ReportedOnStores n len d r
   not-sound h = refuses NotSound 10 refl (λ s l. rw (lt-ltb 256 (n .waiting) h))
 
-  pub store-length : n .waiting ≤ 256 → (len ≡ 256 → ⊥) → (r : ReportOutcome) → r ≡ record { counts = n; answer = StoreLength; write = false; slot = 0; diagnostic = d } → ReportedOn n len d r
+  pub store-length : n .waiting ≤ 256 → (len ≡ 256 → ⊥) → (r : ReportOutcome) → r ≡ record { counts = n; answer = StoreLength; write = false; slot = 0; diagnostic = d } → ReportedOnStores n len d r
   store-length h e = refuses StoreLength 11 refl (λ s l. rw (le-ltb 256 (n .waiting) h, l, ne-eqb len 256 e))
 
-  pub reports : n .waiting ≤ 256 → len ≡ 256 → (m : Diagnostics) → m ≡ counted n → ReportedOn n len d (record { counts = m; answer = Done; write = ltb (n .waiting) 256; slot = n .waiting; diagnostic = d })
+  pub reports : n .waiting ≤ 256 → len ≡ 256 → (m : Diagnostics) → m ≡ counted n → ReportedOnStores n len d (record { counts = m; answer = Done; write = ltb (n .waiting) 256; slot = n .waiting; diagnostic = d })
   reports h q m e =
       record {
         did = λ s l.

@@ -8,7 +8,8 @@ use Rattle.walking.proofs.One.{One, one-of, Outcomes, OutLaws}
 use Rattle.walking.proofs.Extras.{Extra, number}
 use Rattle.walking.proofs.Drive.{Makes, Claims, Shown}
 use Rattle.diagnostics.specs.Reports.{report}
-use Rattle.diagnostics.specs.Lent.{ReportedTo, ReportedOn}
+use Rattle.diagnostics.specs.Lent.{ReportedTo}
+use Rattle.diagnostics.specs.ByValue.{ReportedOnStores}
 use Rattle.diagnostics.specs.declared.ReportOutcome.{ReportOutcome}
 use Rattle.diagnostics.proofs.Rows.{diagnostic, diagnostic-data}
 use Rattle.diagnostics.proofs.Stores.{write-within, writes, leaves}
@@ -71,7 +72,7 @@ abbrev pub kind-at : List Extra
 kind-at = kind ∷ number w64 ∷ []
 
 abbrev Made : Makes counts answer diagnostic kind-at outcome
-Made n len xs r = ReportedOn n len (report (xs .1 .0) (xs .0)) r
+Made n len xs r = ReportedOnStores n len (report (xs .1 .0) (xs .0)) r
 
 abbrev pub Said : Claims counts answer diagnostic kind-at
 Said n s xs a n′ s′ = ReportedTo n s (report (xs .1 .0) (xs .0)) a n′ s′

@@ -6,7 +6,7 @@ use mathlib.Core.List.{List}
 use mathlib.Core.Path.{_≡_, refl, subst}
 use lib.Dec.{T}
 use lib.ListN.{length, set}
-use Rattle.diagnostics.specs.Lent.{writtenIf, OnStores}
+use Rattle.diagnostics.specs.ByValue.{writtenIf, OnStores}
 use Rattle.diagnostics.specs.declared.I2cDiagnostic.{I2cDiagnostic}
 
 is-true : (w : Bool) → T w → w ≡ true

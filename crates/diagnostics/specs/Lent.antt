@@ -1,11 +1,10 @@
 -- A report into a lent store, in document 01's numbers: what `report` promises.
 -- Assumes nothing.
-use Prim.Native.Nat.{ℕ, _<_}
-use mathlib.Core.Bool.{Bool, true, not}
+use mathlib.Core.Bool.{not}
 use mathlib.Core.List.{List, []}
 use mathlib.Core.Path.{_≡_}
 use lib.Dec.{ltb, eqb}
-use lib.ListN.{length, set}
+use lib.ListN.{length}
 use Rattle.refusals.specs.Numbered.{Numbered, accepted, refused, unless}
 use Rattle.computed.specs.Choice.{if_then_else_}
 use Rattle.diagnostics.specs.Reports.{counted, stored}
@@ -13,7 +12,6 @@ use Rattle.diagnostics.specs.declared.I2cDiagnostic.{I2cDiagnostic}
 use Rattle.diagnostics.specs.declared.Diagnostics.{Diagnostics}
 use Rattle.diagnostics.specs.declared.ReportAnswer.{ReportAnswer}
 use Rattle.diagnostics.specs.declared.ReportAnswer.the-variants.{Done, NotSound, StoreLength}
-use Rattle.diagnostics.specs.declared.ReportOutcome.{ReportOutcome}
 
 abbrev pub reportNumbered : ReportAnswer → Numbered (Unit {0})
 reportNumbered Done = accepted tt
@@ -32,18 +30,3 @@ pub record ReportedTo (n : Diagnostics) (s : List I2cDiagnostic) (d : I2cDiagnos
   pub answer : reportNumbered a ≡ reportVerdict n s
   pub counts : n′ ≡ unless (reportVerdict n s) (counted n) n
   pub store : s′ ≡ unless (reportVerdict n s) (stored n d s) s
-
--- ---- the functions by value below the calls with a store
-
--- the store after a record is written, if one is
-abbrev pub writtenIf : Bool → ℕ → I2cDiagnostic → List I2cDiagnostic → List I2cDiagnostic
-writtenIf w i d s = if w then set s i d else s
-
--- P holds of every store of len records and of that store after the write, which is within it
-pub record OnStores (len : ℕ) (w : Bool) (i : ℕ) (d : I2cDiagnostic) (P : List I2cDiagnostic → List I2cDiagnostic → Type 0) : Type 0 where
-  pub did : (s : List I2cDiagnostic) → length s ≡ len → P s (writtenIf w i d s)
-  pub within : w ≡ true → i < len
-
--- a report by value, with a store of len records
-abbrev pub ReportedOn : Diagnostics → ℕ → I2cDiagnostic → ReportOutcome → Type 0
-ReportedOn n len d r = OnStores len (r .write) (r .slot) (r .diagnostic) (λ s s′. ReportedTo n s d (r .answer) (r .counts) s′)

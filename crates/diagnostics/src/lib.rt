@@ -4,7 +4,8 @@
 ghost use mathlib.Core.Bool.{false};
 ghost use mathlib.Core.Path.{_≡_};
 ghost use Rattle.diagnostics.specs.Reports.{counted, report as reportOf};
-ghost use Rattle.diagnostics.specs.Lent.{ReportedTo, ReportedOn};
+ghost use Rattle.diagnostics.specs.Lent.{ReportedTo};
+ghost use Rattle.diagnostics.specs.ByValue.{ReportedOnStores};
 
 // How many records the store has room for.
 pub const MAX_DIAGNOSTICS: usize = 256;
@@ -91,7 +92,7 @@ pub fn report(
 
 // A report by value, into a store of `len` records.
 fn reported(counts: Diagnostics, len: usize, kind: I2cDiagnosticKind, at: u64) -> ReportOutcome
-    ensures { λ r. ⌜ ReportedOn counts len (reportOf at kind) r ⌝ }
+    ensures { λ r. ⌜ ReportedOnStores counts len (reportOf at kind) r ⌝ }
 {
     let diagnostic = I2cDiagnostic {
         at,

@@ -8,7 +8,7 @@ use borrow.Author.Tests.{eqb-true}
 use lib.Dec.{leb, eqb}
 use Rattle.computed.specs.Choice.{if_then_else_}
 use Rattle.computed.proofs.Choice.{chosen}
-use Rattle.calendar.specs.Stated.{InRange}
+use Rattle.calendar.specs.Stated.{InRange, withDay}
 use Rattle.calendar.proofs.Laws.{month-bounds}
 use Rattle.calendar.specs.declared.DateTime.{DateTime}
 use Rattle.fields.specs.Table.{Meaning, undefined, sets, meaning}
@@ -45,23 +45,28 @@ century : (c : Bool) (y : ℕ) → y ≤ 99 → YearIn (2000 + (if c then 100 el
 century true y h = omega arith
 century false y h = omega arith
 
+-- valid on the first of its month, by the ranges of the other fields
+first-in : (t : DateTime) → YearIn (t .year) → (1 ≤ t .month) × (t .month ≤ 12) → t .hour ≤ 23 → t .minute ≤ 59 → t .second ≤ 59 → InRange (withDay 1 t)
+first-in t y m h n s =
+    record {
+      date = record { year-from = y .0; year-to = y .1; month-from = m .0; month-to = m .1; day-from = omega arith; day-to = omega (arith, month-bounds (t .year) (t .month)) };
+      hour-to = h;
+      minute-to = n;
+      second-to = s;
+    }
+
 changed-in : (m : Meaning) → MeaningIn m → (t : DateTime) → TimeIn t → TimeIn (changedTime m t)
 changed-in undefined i t h = h
 changed-in (sets r n flag) i t h =
+    let v = h .valid in
     let y = by-register YearIn r 5 (λ e. century flag (t .year % 100) (omega arith))
-    (by-register YearIn r 6 (λ e. century (leb 2100 (t .year)) n (i .year e)) (h .year-from, h .year-to)) in
-    let m = by-register (λ x. (1 ≤ x) × (x ≤ 12)) r 5 (i .month) (h .month-from, h .month-to) in
+    (by-register YearIn r 6 (λ e. century (leb 2100 (t .year)) n (i .year e)) (v .date .year-from, v .date .year-to)) in
+    let m = by-register (λ x. (1 ≤ x) × (x ≤ 12)) r 5 (i .month) (v .date .month-from, v .date .month-to) in
     let d = by-register (λ x. (1 ≤ x) × (x ≤ 31)) r 4 (i .day) (h .day-from, h .day-to) in
     record {
-      year-from = y .0;
-      year-to = y .1;
-      month-from = m .0;
-      month-to = m .1;
+      valid = first-in (changedTime (sets r n flag) t) y m (by-register (λ x. x ≤ 23) r 2 (i .hour) (v .hour-to)) (by-register (λ x. x ≤ 59) r 1 (i .minute) (v .minute-to)) (by-register (λ x. x ≤ 59) r 0 (i .second) (v .second-to));
       day-from = d .0;
       day-to = d .1;
-      hour-to = by-register (λ x. x ≤ 23) r 2 (i .hour) (h .hour-to);
-      minute-to = by-register (λ x. x ≤ 59) r 1 (i .minute) (h .minute-to);
-      second-to = by-register (λ x. x ≤ 59) r 0 (i .second) (h .second-to);
     }
 
 -- a weekday stays one
@@ -92,14 +97,5 @@ weekday-shown k t = omega arith
 -- a time in range is one for a pending time
 pub time-in : (t : DateTime) → InRange t → TimeIn t
 time-in t v =
-    record {
-      year-from = v .date .year-from;
-      year-to = v .date .year-to;
-      month-from = v .date .month-from;
-      month-to = v .date .month-to;
-      day-from = v .date .day-from;
-      day-to = omega (arith, month-bounds (t .year) (t .month));
-      hour-to = v .hour-to;
-      minute-to = v .minute-to;
-      second-to = v .second-to;
-    }
+    let e = v .date in
+    record { valid = first-in t (e .year-from, e .year-to) (e .month-from, e .month-to) (v .hour-to) (v .minute-to) (v .second-to); day-from = e .day-from; day-to = omega (arith, month-bounds (t .year) (t .month)) }

@@ -1,7 +1,7 @@
 -- The claim of `Exact`, proved.
 -- Assumes nothing.
 use Prim.Native.Nat.{ℕ, _+_, _-_, _%_, _≤_}
-use mathlib.Core.Bool.{Bool, true, false, not}
+use mathlib.Core.Bool.{Bool, true, false, not, _&&_}
 use mathlib.Core.List.{List, [], _∷_, _++_}
 use mathlib.Core.Path.{_≡_, refl, sym, ap, ap₂, _∙_, subst}
 use native.Mathlib.Nat.{le-trans}
@@ -12,15 +12,18 @@ use lib.ListN.{length, getD}
 use Rattle.refusals.specs.Numbered.{Numbered, accepted, refused, andThen, unless}
 use Rattle.refusals.proofs.Checks.{never}
 use Rattle.computed.specs.Choice.{if_then_else_}
-use Rattle.calendar.specs.Stated.{InRange, checked, timeOf}
-use Rattle.calendar.proofs.Laws.{accepted-in-range, seconds-of-time, weekday-formula}
+use Rattle.computed.proofs.Choice.{chosen}
+use Rattle.calendar.specs.Stated.{InRange, checked, secondsOf}
+use Rattle.calendar.proofs.Laws.{accepted-in-range, time-in-range, seconds-of-time, weekday-formula}
 use Rattle.diagnostics.specs.declared.I2cDiagnostic.{I2cDiagnostic}
-use Rattle.ds3231.specs.Clock.{secondsAt, offsetFor}
+use Rattle.ds3231.specs.Clock.{secondsAt, timeAt, offsetFor}
 use Rattle.ds3231.specs.Timing.{shownAt, latch, pointed, inPhase}
 use Rattle.ds3231.specs.Registers.{otherByte}
 use Rattle.ds3231.specs.Calls.{inQuarters, sound, timingOn, chipOn, checkedQuarters, powerOn, registerAnswer, written, hasRead, step, stepChip, replied, Call, bus, taking, lentStore, tooShort, verdict, chipBy, chipAfter, answeredBy, answer}
-use Rattle.ds3231.specs.Model.{reads, Model, wrapsIn, wraps, fed, modelOn}
-use Rattle.ds3231.specs.Exact.{chipAfterAll, eventsBy, events, fullyLent, modelAfter, Mark, markWith, markBy, modelBy, markAfter, instant, NeverFall, lastInstant, chip, model, mark, ReadsTime, Holds, ExactTime}
+use Rattle.ds3231.specs.Model.{Stage, reads, Model, isReads, fed, modelOn}
+use Rattle.ds3231.specs.Exact.{eventsBy, events, fullyLent, instant, NeverFall, lastInstant, Watched, marks, watchedBy, watched, after, TimeRead, answerTo, Holds, ExactTime}
+use Rattle.ds3231.specs.Total.{chipAfterAll}
+use Rattle.ds3231.specs.declared.Clock.{Clock}
 use Rattle.ds3231.specs.declared.Phase.{Phase}
 use Rattle.ds3231.specs.declared.Phase.the-variants.{Released, Pointer, Writing, Reading, Ignoring}
 use Rattle.ds3231.specs.declared.Timing.{Timing}
@@ -30,6 +33,7 @@ use Rattle.ds3231.specs.declared.Event.the-variants.{Start, Write, Read,
 use Rattle.ds3231.specs.declared.Reply.the-variants.{Byte}
 use Rattle.ds3231.specs.declared.Ds3231Config.{Ds3231Config}
 use Rattle.ds3231.proofs.Facts.{Sound, sound-test}
+use Rattle.ds3231.proofs.Bytes.{seconds-in}
 use Rattle.ds3231.proofs.Sounds.{call-sound, after-sound, register-byte, on-sound}
 use Rattle.ds3231.proofs.Places.{stageOf, Place, event-place}
 use Rattle.ds3231.proofs.Follows.{Follows, exact-is, follow-later, follow-latch, event-follows}
@@ -37,7 +41,7 @@ use Rattle.ds3231.proofs.Follows.{Follows, exact-is, follow-later, foll
 -- ---- the events are the bus calls that are lent 256 records
 
 -- the verdict of a sound chip
-verdict-is : (k : Call) (c : Ds3231) → Sound c
+pub verdict-is : (k : Call) (c : Ds3231) → Sound c
     → verdict k c ≡ (if not (eqb (length (lentStore k)) 256) then refused 11 [] else if tooShort k c then refused 12 [] else accepted tt)
 verdict-is k c h =
     ap (λ (b : Bool). if not b then refused 10 [] else if not (eqb (length (lentStore k)) 256) then refused 11 [] else if tooShort k c then refused 12 [] else accepted tt)
@@ -64,8 +68,9 @@ feed-run (taking s o ∷ ks) c h =
 
 -- ---- whatever the instants: the latch is what `register` shows at the mark
 
-abbrev Shown : Timing → Mark → Type 0
-Shown c l = c .latched ≡ shownAt (l .chip .timing) (l .at)
+-- a chip's latch, and the chip and instant of the mark
+abbrev Shown : Timing → Ds3231 → ℕ → Type 0
+Shown c d t = c .latched ≡ shownAt (d .timing) t
 
 write-latch : (p : Phase) (b t : ℕ) (c : Ds3231) → written p b t c .timing .latched ≡ c .timing .latched
 write-latch Released b t c = refl
@@ -79,80 +84,88 @@ write-latch Pointer b t c = by (leb b 0x12)
 write-latch Writing b t c = refl
 
 -- a read latches where it wraps, as the model tells
-read-latch : (p : Phase) (t : ℕ) (c : Ds3231) (l n : Mark) → n .chip .timing ≡ hasRead p t c .timing → n .at ≡ t → Shown (c .timing) l
-    → Shown (hasRead p t c .timing) (if wrapsIn (stageOf p) (c .timing .pointer) then n else l)
-read-latch Released t c l n e f w = w
-read-latch Pointer t c l n e f w = w
-read-latch Writing t c l n e f w = w
-read-latch Ignoring t c l n e f w = w
-read-latch Reading t c l n e f w = by (leb 0x12 (c .timing .pointer)) e
+read-latch : (p : Phase) (t : ℕ) (c d n : Ds3231) (l : ℕ) → n .timing ≡ hasRead p t c .timing → Shown (c .timing) d l
+    → let b = isReads (stageOf p) && leb 0x12 (c .timing .pointer) in Shown (hasRead p t c .timing) (if b then n else d) (if b then t else l)
+read-latch Released t c d n l e w = w
+read-latch Pointer t c d n l e w = w
+read-latch Writing t c d n l e w = w
+read-latch Ignoring t c d n l e w = w
+read-latch Reading t c d n l e w = by (leb 0x12 (c .timing .pointer)) e
   where
-    by : (b : Bool) → n .chip .timing ≡ (if b then latch t (pointed 0 (c .timing)) else pointed (c .timing .pointer + 1) (c .timing))
-        → Shown (if b then latch t (pointed 0 (c .timing)) else pointed (c .timing .pointer + 1) (c .timing)) (if b then n else l)
-    by true q = ap₂ shownAt (sym q) (sym f)
+    by : (b : Bool) → n .timing ≡ (if b then latch t (pointed 0 (c .timing)) else pointed (c .timing .pointer + 1) (c .timing))
+        → Shown (if b then latch t (pointed 0 (c .timing)) else pointed (c .timing .pointer + 1) (c .timing)) (if b then n else d) (if b then t else l)
+    by true q = ap (λ (x : Timing). shownAt x t) (sym q)
     by false q = w
 
-pub record Stands (c : Ds3231) (m : Model) (l : Mark) : Type 0 where
-  pub place : Place (c .timing) m
-  pub shown : Shown (c .timing) l
-  pub sound-chip : Sound c
-  pub sound-mark : Sound (l .chip)
+pub record Stands (w : Watched) : Type 0 where
+  pub place : Place (w .chip .timing) (w .model)
+  pub shown : Shown (w .chip .timing) (w .marked) (w .at)
+  pub sound-chip : Sound (w .chip)
+  pub sound-mark : Sound (w .marked)
 
 -- an event
-marked : (e : Event) (c : Ds3231) (m : Model) (l : Mark) → Place (c .timing) m → Shown (c .timing) l
-    → Shown (step e c .timing) (markWith e m (stepChip (step e c) c) l)
-marked (Start a r t) c m l p w = refl
-marked (Write b t) c m l p w = write-latch (c .timing .phase) b t c ∙ w
-marked (Read k t) c m l p w =
-    subst (λ (x : Bool). Shown (hasRead (c .timing .phase) t c .timing) (if x then record { chip = stepChip (step (Read k t) c) c; at = t } else l))
-    (sym (ap₂ wrapsIn (p .stage) (p .pointer)))
-    (read-latch (c .timing .phase) t c l (record { chip = stepChip (step (Read k t) c) c; at = t }) refl refl w)
-marked (Stop t) c m l p w = w
+marked : (e : Event) (c d : Ds3231) (m : Model) (l : ℕ) → Place (c .timing) m → Shown (c .timing) d l
+    → Shown (step e c .timing) (if marks e m then stepChip (step e c) c else d) (if marks e m then instant e else l)
+marked (Start a r t) c d m l p w = refl
+marked (Write b t) c d m l p w = write-latch (c .timing .phase) b t c ∙ w
+marked (Read k t) c d m l p w =
+    subst (λ (x : Bool). Shown (hasRead (c .timing .phase) t c .timing) (if x then stepChip (step (Read k t) c) c else d) (if x then t else l))
+    (sym (ap₂ (λ (s : Stage) (r : ℕ). isReads s && leb 0x12 r) (p .stage) (p .pointer)))
+    (read-latch (c .timing .phase) t c d (stepChip (step (Read k t) c) c) l refl w)
+marked (Stop t) c d m l p w = w
 
-mark-sound : (e : Event) (c : Ds3231) (m : Model) (l : Mark) → Sound (stepChip (step e c) c) → Sound (l .chip) → Sound (markWith e m (stepChip (step e c) c) l .chip)
-mark-sound (Start a r t) c m l h w = h
-mark-sound (Write b t) c m l h w = w
-mark-sound (Read k t) c m l h w = by (wraps m)
-  where
-    by : (x : Bool) → Sound ((if x then record { chip = stepChip (step (Read k t) c) c; at = t } else l) .chip)
-    by true = h
-    by false = w
-mark-sound (Stop t) c m l h w = w
+-- a call, allowed or refused, and a list of calls
+stands-next : (v : Numbered (Unit {0})) (k : Call) (w : Watched) → Stands w → Stands (watchedBy v k w)
+stands-next (refused n vs) k w s = s
+stands-next (accepted u) (bus l e) w s =
+    let h = call-sound (bus l e) (w .chip) (s .sound-chip) in
+    record {
+      place = event-place e (w .chip) (w .model) (s .place);
+      shown = marked e (w .chip) (w .marked) (w .model) (w .at) (s .place) (s .shown);
+      sound-chip = h;
+      sound-mark = chosen Sound (marks e (w .model)) (λ b. h) (λ b. s .sound-mark);
+    }
+stands-next (accepted u) (taking l o) w s = record { place = s .place; shown = s .shown; sound-chip = call-sound (taking l o) (w .chip) (s .sound-chip); sound-mark = s .sound-mark }
 
--- one call, allowed or refused, and then the rest
-stands-next : (v : Numbered (Unit {0})) (k : Call) (ks : List Call) (c : Ds3231) (m : Model) (l : Mark) → Stands c m l
-    → ((d : Ds3231) (n : Model) (j : Mark) → Stands d n j → Stands (chipAfterAll d ks) (modelAfter n (events d ks)) (markAfter j n d ks))
-    → Stands (chipAfterAll (unless v (chipBy k c) c) ks) (modelAfter m (eventsBy v k (events (unless v (chipBy k c) c) ks)))
-    (markAfter (markBy v k m (unless v (chipBy k c) c) l) (modelBy v k m) (unless v (chipBy k c) c) ks)
-stands-next (refused n vs) k ks c m l w rest = rest c m l w
-stands-next (accepted u) (bus s e) ks c m l w rest =
-    let h = call-sound (bus s e) c (w .sound-chip) in
-    rest (stepChip (step e c) c) (fed e m) (markWith e m (stepChip (step e c) c) l)
-    (record { place = event-place e c m (w .place); shown = marked e c m l (w .place) (w .shown); sound-chip = h; sound-mark = mark-sound e c m l h (w .sound-mark) })
-stands-next (accepted u) (taking s o) ks c m l w rest =
-    rest (chipBy (taking s o) c) m l
-    (record { place = w .place; shown = w .shown; sound-chip = call-sound (taking s o) c (w .sound-chip); sound-mark = w .sound-mark })
-
-stands-run : (ks : List Call) (c : Ds3231) (m : Model) (l : Mark) → Stands c m l → Stands (chipAfterAll c ks) (modelAfter m (events c ks)) (markAfter l m c ks)
-stands-run [] c m l w = w
-stands-run (k ∷ ks) c m l w = stands-next (verdict k c) k ks c m l w (λ d n j v. stands-run ks d n j v)
+stands-run : (ks : List Call) (w : Watched) → Stands w → Stands (watched w ks)
+stands-run [] w s = s
+stands-run (k ∷ ks) w s = stands-run ks (watchedBy (verdict k (w .chip)) k w) (stands-next (verdict k (w .chip)) k w s)
 
 -- ---- while the instants never fall: the timing follows the model
 
-follows-next : (v : Numbered (Unit {0})) (k : Call) (ks : List Call) (c : Ds3231) (m : Model) (t₀ : ℕ) → Sound c → Follows (c .timing) m t₀
-    → ((d : Ds3231) (n : Model) (t : ℕ) → Sound d → Follows (d .timing) n t → NeverFall t (events d ks)
-    → Follows (chipAfterAll d ks .timing) (modelAfter n (events d ks)) (lastInstant t (events d ks)))
-    → NeverFall t₀ (eventsBy v k (events (unless v (chipBy k c) c) ks))
-    → Follows (chipAfterAll (unless v (chipBy k c) c) ks .timing) (modelAfter m (eventsBy v k (events (unless v (chipBy k c) c) ks))) (lastInstant t₀ (eventsBy v k (events (unless v (chipBy k c) c) ks)))
-follows-next (refused n vs) k ks c m t₀ h w rest f = rest c m t₀ h w f
-follows-next (accepted u) (bus s e) ks c m t₀ h w rest f =
-    rest (stepChip (step e c) c) (fed e m) (instant e) (call-sound (bus s e) c h) (event-follows e c m (h .timing) (follow-later (c .timing) m t₀ (instant e) (f .0) w)) (f .1)
-follows-next (accepted u) (taking s o) ks c m t₀ h w rest f = rest (chipBy (taking s o) c) m t₀ (call-sound (taking s o) c h) w f
+-- what is left to show after a call
+abbrev FollowsRun : List Call → Watched → ℕ → Type 0
+FollowsRun ks w t = Sound (w .chip) → Follows (w .chip .timing) (w .model) t → NeverFall t (events (w .chip) ks)
+    → Follows (watched w ks .chip .timing) (watched w ks .model) (lastInstant t (events (w .chip) ks))
 
-follows-run : (ks : List Call) (c : Ds3231) (m : Model) (t₀ : ℕ) → Sound c → Follows (c .timing) m t₀ → NeverFall t₀ (events c ks)
-    → Follows (chipAfterAll c ks .timing) (modelAfter m (events c ks)) (lastInstant t₀ (events c ks))
-follows-run [] c m t₀ h w f = w
-follows-run (k ∷ ks) c m t₀ h w f = follows-next (verdict k c) k ks c m t₀ h w (λ d n t g v i. follows-run ks d n t g v i) f
+follows-next : (v : Numbered (Unit {0})) (k : Call) (ks : List Call) (w : Watched) (t₀ : ℕ) → Sound (w .chip) → Follows (w .chip .timing) (w .model) t₀
+    → ((x : Watched) (t : ℕ) → FollowsRun ks x t)
+    → let es = eventsBy v k (events (unless v (chipBy k (w .chip)) (w .chip)) ks) in
+    NeverFall t₀ es → Follows (watched (watchedBy v k w) ks .chip .timing) (watched (watchedBy v k w) ks .model) (lastInstant t₀ es)
+follows-next (refused n vs) k ks w t₀ h s rest f = rest w t₀ h s f
+follows-next (accepted u) (bus l e) ks w t₀ h s rest f =
+    rest (watchedBy (accepted u) (bus l e) w) (instant e) (call-sound (bus l e) (w .chip) h)
+    (event-follows e (w .chip) (w .model) (h .timing) (follow-later (w .chip .timing) (w .model) t₀ (instant e) (f .0) s)) (f .1)
+follows-next (accepted u) (taking l o) ks w t₀ h s rest f = rest (watchedBy (accepted u) (taking l o) w) t₀ (call-sound (taking l o) (w .chip) h) s f
+
+follows-run : (ks : List Call) (w : Watched) (t : ℕ) → FollowsRun ks w t
+follows-run [] w t h s f = s
+follows-run (k ∷ ks) w t h s f = follows-next (verdict k (w .chip)) k ks w t h s (λ x u. follows-run ks x u) f
+
+-- the model is fed the events
+abbrev pub modelAfter : Model → List Event → Model
+modelAfter m [] = m
+modelAfter m (e ∷ es) = modelAfter (fed e m) es
+
+fed-next : (v : Numbered (Unit {0})) (k : Call) (ks : List Call) (w : Watched) → ((x : Watched) → watched x ks .model ≡ modelAfter (x .model) (events (x .chip) ks))
+    → watched (watchedBy v k w) ks .model ≡ modelAfter (w .model) (eventsBy v k (events (unless v (chipBy k (w .chip)) (w .chip)) ks))
+fed-next (refused n vs) k ks w rest = rest w
+fed-next (accepted u) (bus l e) ks w rest = rest (watchedBy (accepted u) (bus l e) w)
+fed-next (accepted u) (taking l o) ks w rest = rest (watchedBy (accepted u) (taking l o) w)
+
+pub fed-events : (ks : List Call) (w : Watched) → watched w ks .model ≡ modelAfter (w .model) (events (w .chip) ks)
+fed-events [] w = refl
+fed-events (k ∷ ks) w = fed-next (verdict k (w .chip)) k ks w (λ x. fed-events ks x)
 
 -- ---- the calls before a READ
 
@@ -212,6 +225,10 @@ power-on-sound f c₀ e =
     let o = on-by f c₀ e in
     subst (λ (c : Ds3231). sound c ≡ true) (o .is) (sound-test (chipOn f) (on-sound f (o .in-range) (o .quarters)))
 
+-- document 01, 'Register bytes': power-on sets the offset to 5
+pub power-on-offset : (f : Ds3231Config) (c₀ : Ds3231) → powerOn f ≡ accepted c₀ → c₀ .timing .clock .«weekday_offset» ≡ 5
+power-on-offset f c₀ e = ap (λ (c : Ds3231). c .timing .clock .«weekday_offset») (sym (on-by f c₀ e .is)) ∙ sym (power-offset _ _ (weekday-formula (f .start)))
+
 -- ---- the claim
 
 -- what a READ answers, once the chip is known to be addressed for reading and at a time register
@@ -228,29 +245,38 @@ register-answer c r t w h =
     register-byte c r t (sound-test c w) (omega arith)
     ∙ ap (λ (e : Bool). accepted (if e then getD (shownAt (c .timing) t) r 0 else otherByte (c .registers) r t)) (le-leb r 0x06 h)
 
+-- what the clock shows is valid, and its seconds are the clock's
+shown-valid : (k : Clock) (t : ℕ) → InRange (timeAt k t)
+shown-valid k t = time-in-range (secondsAt k t) (seconds-in k t)
+
+shown-seconds : (k : Clock) (t : ℕ) → secondsOf (timeAt k t) ≡ secondsAt k t
+shown-seconds k t = seconds-of-time (secondsAt k t)
+
 module _ (f : Ds3231Config) (v : InRange (f .start)) (q : inQuarters (f .«temperature_quarters») ≡ true) where
   abbrev c₀ : Ds3231
   c₀ = chipOn f
 
-  stands : (calls : List Call) → Stands (chip f c₀ calls) (model f c₀ calls) (mark f c₀ calls)
-  stands calls =
-      stands-run calls c₀ (modelOn f) (record { chip = c₀; at = 0 })
-      (record { place = record { stage = refl; pointer = refl }; shown = refl; sound-chip = on-sound f v q; sound-mark = on-sound f v q })
+  abbrev watchedOn : Watched
+  watchedOn = record { chip = c₀; model = modelOn f; marked = c₀; at = 0 }
 
-  follows : (calls : List Call) → NeverFall 0 (events c₀ calls) → Follows (chip f c₀ calls .timing) (model f c₀ calls) (lastInstant 0 (events c₀ calls))
-  follows calls h = follows-run calls c₀ (modelOn f) 0 (on-sound f v q) (on-follows f) h
+  stands : (calls : List Call) → Stands (after f c₀ calls)
+  stands calls = stands-run calls watchedOn (record { place = record { stage = refl; pointer = refl }; shown = refl; sound-chip = on-sound f v q; sound-mark = on-sound f v q })
+
+  follows : (calls : List Call) → NeverFall 0 (events c₀ calls) → Follows (after f c₀ calls .chip .timing) (after f c₀ calls .model) (lastInstant 0 (events c₀ calls))
+  follows calls h = follows-run calls watchedOn 0 (on-sound f v q) (on-follows f) h
 
   never-before : (calls before more : List Call) → calls ≡ before ++ more → NeverFall 0 (events c₀ calls) → NeverFall 0 (events c₀ before)
   never-before calls before more e h =
       never-prefix (events c₀ before) (events (chipAfterAll c₀ before) more) 0 (subst (NeverFall 0) (ap (events c₀) e ∙ events-append before more c₀) h)
 
   -- what a READ of the time answers
-  answers : (before : List Call) (s : List I2cDiagnostic) (k : Bool) (t : ℕ) → ReadsTime f c₀ before s k t
-      → answer (bus s (Read k t)) (chip f c₀ before) ≡ accepted (replied (Byte (getD (chip f c₀ before .timing .latched) (chip f c₀ before .timing .pointer) 0)))
-  answers before s k t r =
-      let w = stands before in
-      read-answer s k t (chip f c₀ before) (r .not-refused) (reading-phase (chip f c₀ before .timing .phase) (sym (w .place .stage) ∙ r .reading))
-      (subst (λ (x : ℕ). x ≤ 0x06) (w .place .pointer) (r .at-time))
+  answers : (calls : List Call) (r : TimeRead f c₀ calls) → let c = after f c₀ (r .before) .chip .timing in
+      answerTo f c₀ calls r ≡ accepted (replied (Byte (getD (c .latched) (c .pointer) 0)))
+  answers calls r =
+      let c = after f c₀ (r .before) .chip in
+      let w = stands (r .before) .place in
+      read-answer (r .store) (r .acknowledged) (r .at) c (r .not-refused) (reading-phase (c .timing .phase) (sym (w .stage) ∙ r .reading))
+      (subst (λ (x : ℕ). x ≤ 0x06) (w .pointer) (r .at-time))
     where
       reading-phase : (p : Phase) → stageOf p ≡ reads → p ≡ Reading
       reading-phase Reading e = refl
@@ -263,28 +289,34 @@ module _ (f : Ds3231Config) (v : InRange (f .start)) (q : inQuarters (f .«tempe
   holds calls =
       record {
         feed = feed-run calls c₀ (on-sound f v q);
-        answers-register = λ before later s k t e r.
-            let w = stands before in (
-              getD (chip f c₀ before .timing .latched) (chip f c₀ before .timing .pointer) 0,
-              answers before s k t r,
-              register-answer (mark f c₀ before .chip) (model f c₀ before .pointer) (mark f c₀ before .at) (w .sound-mark) (r .at-time)
-                  ∙ ap₂ (λ (l : List ℕ) (x : ℕ). accepted (getD l x 0)) (sym (w .shown)) (w .place .pointer),
+        answers-register = λ r.
+            let w = after f c₀ (r .before) in
+            let s = stands (r .before) in (
+              getD (w .chip .timing .latched) (w .chip .timing .pointer) 0,
+              answers calls r,
+              register-answer (w .marked) (w .model .pointer) (w .at) (s .sound-mark) (r .at-time)
+                  ∙ ap₂ (λ (l : List ℕ) (x : ℕ). accepted (getD l x 0)) (sym (s .shown)) (s .place .pointer),
             );
-        answers-model = λ h before later s k t e r.
-            let w = follows before (never-before calls before (bus s (Read k t) ∷ later) e h) in
-            answers before s k t r ∙ ap₂ (λ (l : List ℕ) (x : ℕ). accepted (replied (Byte (getD l x 0)))) (sym (w .latched)) (sym (w .pointer));
+        answers-model = λ h r.
+            let w = follows (r .before) (never-before calls (r .before) (bus (r .store) (Read (r .acknowledged) (r .at)) ∷ r .later) (r .among) h) in
+            answers calls r ∙ ap₂ (λ (l : List ℕ) (x : ℕ). accepted (replied (Byte (getD l x 0)))) (sym (w .latched)) (sym (w .pointer));
         latches = λ h. sym (follows calls h .latched);
         shows = λ h t g.
-            let k = chip f c₀ calls .timing .clock in
+            let k = after f c₀ calls .chip .timing .clock in
             let w = follows calls h .clock in
-            let x = exact-is k (model f c₀ calls) (lastInstant 0 (events c₀ calls)) w t (le-trans (w .since) g) in
-            let y = seconds-of-time (secondsAt k t) in (
-              timeOf (secondsAt k t),
-              ap (λ (b : Bool). andThen (if b then accepted tt else refused 10 []) (accepted (timeOf (secondsAt k t)))) (sound-test (chip f c₀ calls) (stands calls .sound-chip)),
-              omega arith,
-              omega arith,
+            let x = exact-is k (after f c₀ calls .model) (lastInstant 0 (events c₀ calls)) w t (le-trans (w .since) g) in
+            let y = shown-seconds k t in (
+              timeAt k t,
+              ap (λ (b : Bool). andThen (if b then accepted tt else refused 10 []) (accepted (timeAt k t))) (sound-test (after f c₀ calls .chip) (stands calls .sound-chip)),
+              record { valid = shown-valid k t; at-most = omega arith; within = omega arith },
             );
       }
+
+-- the chip after any calls is sound
+pub after-power-on : (f : Ds3231Config) (c₀ : Ds3231) → powerOn f ≡ accepted c₀ → (calls : List Call) → Sound (after f c₀ calls .chip)
+after-power-on f c₀ e calls =
+    let o = on-by f c₀ e in
+    subst (λ (c : Ds3231). Sound (after f c calls .chip)) (o .is) (stands f (o .in-range) (o .quarters) calls .sound-chip)
 
 pub exact-time : ExactTime
 exact-time f c₀ e calls =

@@ -2,11 +2,14 @@
 -- Assumes nothing.
 use Prim.Native.Nat.{_-_, _≤_, _<_}
 use mathlib.Core.Bool.{Bool, true, false, not, _||_, false≢true}
-use mathlib.Core.Path.{_≡_, refl}
+use mathlib.Core.Path.{_≡_, refl, ap}
 use borrow.Author.Tests.{leb-true, ltb-true, eqb-true, le-leb, lt-ltb, eq-eqb}
 use lib.Dec.{leb, ltb, eqb}
 use lib.Bits.{bitAnd}
+use Rattle.refusals.specs.Numbered.{Numbered, accepted, refused, isAccepted}
 use Rattle.computed.proofs.Choice.{both, both-true}
+use Rattle.calendar.specs.Stated.{InRange, withDay, checked}
+use Rattle.calendar.proofs.Laws.{in-range-accepted, accepted-in-range}
 use Rattle.calendar.specs.declared.DateTime.{DateTime}
 use Rattle.ds3231.specs.Numbers.{range, day}
 use Rattle.ds3231.specs.Calls.{soundTime, soundPending, soundTiming, inQuarters, soundRegisters, sound}
@@ -18,15 +21,9 @@ use Rattle.ds3231.specs.declared.Ds3231.{Ds3231}
 -- ---- soundness as facts
 
 pub record TimeIn (t : DateTime) : Type 0 where
-  pub year-from : 2000 ≤ t .year
-  pub year-to : t .year ≤ 2199
-  pub month-from : 1 ≤ t .month
-  pub month-to : t .month ≤ 12
+  pub valid : InRange (withDay 1 t)
   pub day-from : 1 ≤ t .day
   pub day-to : t .day ≤ 31
-  pub hour-to : t .hour ≤ 23
-  pub minute-to : t .minute ≤ 59
-  pub second-to : t .second ≤ 59
 
 pub record PendingIn (p : PendingTime) : Type 0 where
   pub time : TimeIn (p .time)
@@ -51,12 +48,13 @@ pub record Sound (c : Ds3231) : Type 0 where
 
 -- from the facts to the test
 
+is-accepted : (v : Numbered (Unit {0})) → isAccepted v ≡ true → v ≡ accepted tt
+is-accepted (accepted u) e = refl
+is-accepted (refused n vs) e = absurd (false≢true e)
+
 time-test : (t : DateTime) → TimeIn t → soundTime t ≡ true
 unfolding soundTime
-time-test t h =
-    both-true _ _ (both-true _ _ (both-true _ _ (both-true _ _ (both-true _ _ (both-true _ _ (both-true _ _ (both-true _ _
-    (le-leb _ _ (h .year-from)) (le-leb _ _ (h .year-to))) (le-leb _ _ (h .month-from))) (le-leb _ _ (h .month-to)))
-    (le-leb _ _ (h .day-from))) (le-leb _ _ (h .day-to))) (le-leb _ _ (h .hour-to))) (le-leb _ _ (h .minute-to))) (le-leb _ _ (h .second-to))
+time-test t h = both-true _ _ (both-true _ _ (ap isAccepted (in-range-accepted (withDay 1 t) (h .valid))) (le-leb _ _ (h .day-from))) (le-leb _ _ (h .day-to))
 
 pending-test : (q : Bool) (p : PendingTime) → (q ≡ true → PendingIn p) → (not q || soundPending p) ≡ true
 unfolding soundPending
@@ -78,25 +76,9 @@ sound-test c h =
 time-fact : (t : DateTime) → soundTime t ≡ true → TimeIn t
 unfolding soundTime
 time-fact t e =
-    let a = both _ (leb (t .second) 59) e in
-    let b = both _ (leb (t .minute) 59) (a .0) in
-    let c = both _ (leb (t .hour) 23) (b .0) in
-    let d = both _ (leb (t .day) 31) (c .0) in
-    let f = both _ (leb 1 (t .day)) (d .0) in
-    let g = both _ (leb (t .month) 12) (f .0) in
-    let h = both _ (leb 1 (t .month)) (g .0) in
-    let i = both (leb 2000 (t .year)) (leb (t .year) 2199) (h .0) in
-    record {
-      year-from = leb-true _ _ (i .0);
-      year-to = leb-true _ _ (i .1);
-      month-from = leb-true _ _ (h .1);
-      month-to = leb-true _ _ (g .1);
-      day-from = leb-true _ _ (f .1);
-      day-to = leb-true _ _ (d .1);
-      hour-to = leb-true _ _ (c .1);
-      minute-to = leb-true _ _ (b .1);
-      second-to = leb-true _ _ (a .1);
-    }
+    let a = both _ (leb (t .day) 31) e in
+    let b = both (isAccepted (checked (withDay 1 t))) (leb 1 (t .day)) (a .0) in
+    record { valid = accepted-in-range (withDay 1 t) (is-accepted (checked (withDay 1 t)) (b .0)); day-from = leb-true _ _ (b .1); day-to = leb-true _ _ (a .1) }
 
 pending-fact : (q : Bool) (p : PendingTime) → (not q || soundPending p) ≡ true → q ≡ true → PendingIn p
 unfolding soundPending

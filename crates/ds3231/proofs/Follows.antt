@@ -1,6 +1,6 @@
 -- While the instants never fall the chip's timing follows the model: the relation between the two, and that each event keeps it.
 -- Assumes nothing.
-use Prim.Native.Nat.{ℕ, zero, suc, _+_, _*_, _-_, _/_, _%_, _≤_, _<_}
+use Prim.Native.Nat.{ℕ, _+_, _*_, _-_, _/_, _%_, _≤_, _<_}
 use mathlib.Core.Bool.{Bool, true, false, _||_}
 use mathlib.Core.List.{List, [], _∷_, _++_}
 use mathlib.Core.Path.{_≡_, refl, sym, ap, ap₂, _∙_, subst}
@@ -10,19 +10,19 @@ use borrow.Author.Tests.{ltb-true, ltb-false}
 use lib.Dec.{leb, ltb, eqb, lit<}
 use Rattle.computed.specs.Choice.{if_then_else_}
 use Rattle.computed.proofs.Claim.{Claim, eq, each}
-use Rattle.calendar.specs.Stated.{InRange, withDay, timeOf, secondsOf, nearest, monthLength, dayNumber}
-use Rattle.calendar.proofs.Laws.{nearest-same, nearest-past, month-bounds}
+use Rattle.calendar.specs.Stated.{withDay, timeOf, secondsOf, nearest, monthLength, dayNumber}
+use Rattle.calendar.proofs.Laws.{nearest-same, nearest-past}
 use Rattle.calendar.specs.declared.DateTime.{DateTime}
 use Rattle.fields.specs.Table.{Meaning, undefined, sets, meaning, timeBytes}
 use Rattle.ds3231.specs.Numbers.{nanos, range, day}
 use Rattle.ds3231.specs.Clock.{secondsAt, timeAt, weekdayAt, secondStart, offsetFor}
-use Rattle.ds3231.specs.Timing.{isDefined, changedTime, changedWeekday, changedMode, setsSeconds, opened, noted, clockFrom, latch, inPhase, pointed, commit, accept, nextPointer, addressed}
+use Rattle.ds3231.specs.Timing.{isDefined, changedTime, changedWeekday, changedMode, setsSeconds, opened, noted, clockFrom, latch, inPhase, pointed, commit, accept, nextPointer, phaseFor}
 use Rattle.ds3231.specs.Calls.{written, hasRead, step}
 use Rattle.ds3231.specs.Exact.{instant}
 use Rattle.ds3231.specs.declared.Ds3231.{Ds3231}
 use Rattle.ds3231.specs.declared.Event.{Event}
 use Rattle.ds3231.specs.declared.Event.the-variants.{Start, Write, Read, Stop}
-use Rattle.ds3231.specs.Model.{Stage, unaddressed, writes, drops, Accepted, Model, exact, wholeSecond, exactWeekday, dateWith, dateBy, clamped, weekdayWith, weekdayBy, offsetFrom, offsetWith, Instant, never, at, secondsWith, lastSeconds, holdsAt, partSecond, dateSet, closedBy, closed, latching, standing, pointing, keeps, modeWith, keeping, movedPointer, writeIn, readIn, fed}
+use Rattle.ds3231.specs.Model.{Stage, unaddressed, writes, drops, Accepted, Model, exact, wholeSecond, exactWeekday, dateWith, dateBy, clamped, weekdayWith, weekdayBy, weekdayFor, IsOffset, firstOffset, offsetWith, Instant, never, at, secondsWith, lastSeconds, holdsAt, partSecond, dateSet, closedBy, closed, latching, standing, pointing, keeps, modeWith, keeping, movedPointer, writeIn, fed}
 use Rattle.ds3231.specs.declared.Clock.{Clock}
 use Rattle.ds3231.specs.declared.PendingTime.{PendingTime}
 use Rattle.ds3231.specs.declared.Phase.{Phase}
@@ -30,8 +30,8 @@ use Rattle.ds3231.specs.declared.Phase.the-variants.{Released, Pointer, 
 use Rattle.ds3231.specs.declared.Timing.{Timing}
 use Rattle.ds3231.proofs.Counting.{split-count, whole-count, part-count}
 use Rattle.ds3231.proofs.Facts.{TimeIn, TimingIn}
-use Rattle.ds3231.proofs.Bytes.{meaning-in, InWeek, weekday-in, weekday-shown}
-use Rattle.ds3231.proofs.Places.{stageOf, either, stage-addressed, next-moved}
+use Rattle.ds3231.proofs.Bytes.{meaning-in, InWeek, weekday-in, offset-in, weekday-shown}
+use Rattle.ds3231.proofs.Places.{stageOf, either, stage-addressed, next-moved, readIn}
 
 -- ---- the clock and the count
 
@@ -89,22 +89,25 @@ seconds-same (sets r n flag) t k first i = by (eqb r 0)
 clamp-same : (t : DateTime) → TimeIn t → nearest t ≡ clamped t
 clamp-same t h = by (ltb (monthLength (t .year) (t .month)) (t .day)) refl
   where
-    first : InRange (withDay 1 t)
-    first = record { date = record { year-from = h .year-from; year-to = h .year-to; month-from = h .month-from; month-to = h .month-to; day-from = omega arith; day-to = omega (arith, month-bounds (t .year) (t .month)) }; hour-to = h .hour-to; minute-to = h .minute-to; second-to = h .second-to }
-
     by : (e : Bool) → ltb (monthLength (t .year) (t .month)) (t .day) ≡ e → nearest t ≡ (if e then withDay (monthLength (t .year) (t .month)) t else t)
-    by true e = nearest-past t first (ltb-true _ _ e)
-    by false e = nearest-same t (record { date = record { year-from = h .year-from; year-to = h .year-to; month-from = h .month-from; month-to = h .month-to; day-from = h .day-from; day-to = ltb-false _ _ e }; hour-to = h .hour-to; minute-to = h .minute-to; second-to = h .second-to })
+    by true e = nearest-past t (h .valid) (ltb-true _ _ e)
+    by false e =
+        let v = h .valid in
+        nearest-same t (record { date = record { year-from = v .date .year-from; year-to = v .date .year-to; month-from = v .date .month-from; month-to = v .date .month-to; day-from = h .day-from; day-to = ltb-false _ _ e }; hour-to = v .hour-to; minute-to = v .minute-to; second-to = v .second-to })
+
+abbrev candidates : List ℕ
+candidates = 0 ∷ 1 ∷ 2 ∷ 3 ∷ 4 ∷ 5 ∷ 6 ∷ []
 
 -- the offset: computed at each remainder of the day and each weekday
 offsets : ℕ → Claim
-offsets k = eq (offsetFrom 6 0 (k / 7) (k % 7 + 1)) ((k % 7 + 1 - 1 + 7 - k / 7 % 7) % 7)
+offsets k = eq (firstOffset candidates (k / 7) (k % 7 + 1)) ((k % 7 + 1 - 1 + 7 - k / 7 % 7) % 7)
 
-offset-steps : (k o d w : ℕ) → offsetFrom k o d w ≡ offsetFrom k o (d % 7) w
-offset-steps zero o d w = refl
-offset-steps (suc k) o d w =
+-- a day and its remainder have the same offset
+offset-of : (os : List ℕ) (d w : ℕ) → firstOffset os d w ≡ firstOffset os (d % 7) w
+offset-of [] d w = refl
+offset-of (o ∷ os) d w =
     let e : (d + o) % 7 ≡ (d % 7 + o) % 7 = omega arith in
-    ap₂ (λ (x y : ℕ). if eqb (x + 1) w then o else y) e (offset-steps k (o + 1) d w)
+    ap₂ (λ (x y : ℕ). if eqb (x + 1) w then o else y) e (offset-of os d w)
 
 twice : (d : ℕ) → d % 7 % 7 ≡ d % 7
 twice d = omega arith
@@ -116,12 +119,24 @@ offset-same d w h =
     let p : k / 7 ≡ d % 7 = omega arith in
     let q : k % 7 + 1 ≡ w = omega arith in
     let c = each offsets 0 49 tt k (omega arith) (omega arith) in
-    offset-steps 6 0 d w ∙ ap₂ (λ (x y : ℕ). offsetFrom 6 0 x y) (sym p) (sym q) ∙ c ∙ ap₂ (λ (x y : ℕ). (y - 1 + 7 - x % 7) % 7) p q ∙ ap (λ (x : ℕ). (w - 1 + 7 - x) % 7) (twice d)
+    offset-of candidates d w ∙ ap₂ (λ (x y : ℕ). firstOffset candidates x y) (sym p) (sym q) ∙ c ∙ ap₂ (λ (x y : ℕ). (y - 1 + 7 - x % 7) % 7) p q ∙ ap (λ (x : ℕ). (w - 1 + 7 - x) % 7) (twice d)
 
 -- with its offset the day has the weekday
-pub offset-gives : (d w : ℕ) → InWeek w → (d + offsetFor w d) % 7 + 1 ≡ w
+pub offset-gives : (d w : ℕ) → InWeek w → weekdayFor d (offsetFor w d) ≡ w
 unfolding offsetFor
 offset-gives d w h = omega arith
+
+-- the model's offset is the one of 0 to 6 that gives the weekday
+pub the-offset : (d w : ℕ) → 1 ≤ w → w ≤ 7 → IsOffset d w (offsetWith d w) × ((o : ℕ) → IsOffset d w o → o ≡ offsetWith d w)
+unfolding offsetFor
+the-offset d w p q =
+    let e = offset-same d w (p, q) in (
+      record { at-most = subst (λ (x : ℕ). x ≤ 6) (sym e) (offset-in w d); gives = ap (weekdayFor d) e ∙ offset-gives d w (p, q) },
+      λ o i. only o (i .at-most) (i .gives) ∙ sym e,
+    )
+  where
+    only : (o : ℕ) → o ≤ 6 → weekdayFor d o ≡ w → o ≡ offsetFor w d
+    only o h g = omega arith
 
 -- ---- the accepted bytes and the pending time
 
@@ -391,7 +406,7 @@ follow-read Reading t c m w =
 
 pub event-follows : (e : Event) (c : Ds3231) (m : Model) → TimingIn (c .timing) → Follows (c .timing) m (instant e) → Follows (step e c .timing) (fed e m) (instant e)
 event-follows (Start a r t) c m o w =
-    follow-phase (addressed a r) _ (stage-addressed a r) (latch t (commit (c .timing))) (latching t (closed m)) t (follow-latch (commit (c .timing)) (closed m) t (follow-commit (c .timing) m t o w))
+    follow-phase (phaseFor a r) _ (stage-addressed a r) (latch t (commit (c .timing))) (latching t (closed m)) t (follow-latch (commit (c .timing)) (closed m) t (follow-commit (c .timing) m t o w))
 event-follows (Write b t) c m o w =
     subst (λ (s : Stage). Follows (written (c .timing .phase) b t c .timing) (writeIn s b t m) t) (sym (w .stage)) (follow-write (c .timing .phase) b t c m w)
 event-follows (Read k t) c m o w =

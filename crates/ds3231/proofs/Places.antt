@@ -1,15 +1,15 @@
 -- The model stands where the chip does, whatever the instants: the same stage of the transaction and the same pointer.
 -- Assumes nothing.
 use Prim.Native.Nat.{ℕ, _+_}
-use mathlib.Core.Bool.{Bool, true, false}
+use mathlib.Core.Bool.{Bool, true, false, _&&_}
 use mathlib.Core.List.{List, [], _∷_}
 use mathlib.Core.Path.{_≡_, refl, sym, ap, _∙_, subst}
 use borrow.Author.Tests.{leb-true, leb-false, lt-ltb, le-ltb}
 use lib.Dec.{leb, ltb, eqb}
 use Rattle.computed.specs.Choice.{if_then_else_}
-use Rattle.ds3231.specs.Timing.{latch, inPhase, pointed, nextPointer, addressed}
+use Rattle.ds3231.specs.Timing.{latch, inPhase, pointed, nextPointer, phaseFor}
 use Rattle.ds3231.specs.Calls.{written, hasRead, step}
-use Rattle.ds3231.specs.Model.{Stage, unaddressed, awaitsPointer, writes, drops, reads, Accepted, Model, closedBy, latching, standing, pointing, movedPointer, writeIn, readIn, addressedBy, fed}
+use Rattle.ds3231.specs.Model.{Stage, unaddressed, awaitsPointer, writes, drops, reads, Accepted, Model, closedBy, latching, standing, pointing, movedPointer, writeIn, isReads, stageFor, fed}
 use Rattle.ds3231.specs.declared.Phase.{Phase}
 use Rattle.ds3231.specs.declared.Phase.the-variants.{Released, Pointer, Writing, Reading, Ignoring}
 use Rattle.ds3231.specs.declared.Timing.{Timing}
@@ -33,7 +33,7 @@ pub either : {A B : Type 0} (P : A → B → Type 0) (e : Bool) {a a′ : A} {b 
 either P true p q = p
 either P false p q = q
 
-pub stage-addressed : (a : ℕ) (r : Bool) → addressedBy a r ≡ stageOf (addressed a r)
+pub stage-addressed : (a : ℕ) (r : Bool) → stageFor a r ≡ stageOf (phaseFor a r)
 stage-addressed a r = by (eqb a 0x68) r
   where
     by : (e r : Bool) → (if e then (if r then reads else awaitsPointer) else unaddressed) ≡ stageOf (if e then (if r then Reading else Pointer) else Released)
@@ -65,6 +65,10 @@ write-place Pointer b t c m w =
     either Place (leb b 0x12) {a = inPhase Writing (pointed b (c .timing))} {a′ = inPhase Ignoring (c .timing)} {b = standing writes (pointing b m)} {b′ = standing drops m}
     (record { stage = refl; pointer = refl }) (record { stage = refl; pointer = w .pointer })
 write-place Writing b t c m w = record { stage = w .stage; pointer = next-moved (m .pointer) ∙ ap nextPointer (w .pointer) }
+
+-- a READ in a stage
+abbrev pub readIn : Stage → ℕ → Model → Model
+readIn s t m = if isReads s && leb 0x12 (m .pointer) then latching t (pointing 0 m) else if isReads s then pointing (m .pointer + 1) m else m
 
 read-place : (p : Phase) (t : ℕ) (c : Ds3231) (m : Model) → Place (c .timing) m → Place (hasRead p t c .timing) (readIn (stageOf p) t m)
 read-place Released t c m w = w

@@ -7,16 +7,15 @@ use native.Mathlib.Omega.{arith}
 use Rattle.refusals.specs.Numbered.{Numbered, accepted, refused, andThen, unless}
 use Rattle.diagnostics.proofs.Counts.{adds-all}
 use Rattle.ds3231.specs.Calls.{step, Call, bus, taking, chipBy, verdict, chipAfter, answeredBy}
-use Rattle.ds3231.specs.Exact.{chipAfterAll}
-use Rattle.ds3231.specs.Total.{reportsOf, reported, takenOf, taken, ReportTotal}
+use Rattle.ds3231.specs.Total.{chipAfterAll, reportsBy, reported, takenOf, taken, ReportTotal}
 use Rattle.ds3231.specs.declared.Ds3231.{Ds3231}
 use Rattle.ds3231.proofs.ExactTime.{on-by}
 
 -- one call
-call-adds : (v : Numbered (Unit {0})) (k : Call) (c : Ds3231) → c .diagnostics .dropped + reportsOf v k c < 2 ^ 64
+call-adds : (v : Numbered (Unit {0})) (k : Call) (c : Ds3231) → c .diagnostics .dropped + reportsBy v k c < 2 ^ 64
     → (takenOf (andThen v (accepted (answeredBy k c))) + (unless v (chipBy k c) c .diagnostics .waiting + unless v (chipBy k c) c .diagnostics .dropped)
-    ≡ c .diagnostics .waiting + c .diagnostics .dropped + reportsOf v k c)
-    × (unless v (chipBy k c) c .diagnostics .dropped ≤ c .diagnostics .dropped + reportsOf v k c)
+    ≡ c .diagnostics .waiting + c .diagnostics .dropped + reportsBy v k c)
+    × (unless v (chipBy k c) c .diagnostics .dropped ≤ c .diagnostics .dropped + reportsBy v k c)
 call-adds (refused n vs) k c h = (omega arith, omega arith)
 call-adds (accepted u) (bus s e) c h =
     let a = adds-all (step e c .reports) (c .diagnostics) h in

@@ -1,7 +1,7 @@
 -- Power-on gives a sound chip, every call keeps a sound chip sound, and each register of a sound chip has a byte.
 -- Assumes nothing.
 use Prim.Native.Nat.{ℕ, _-_, _≤_, _<_}
-use mathlib.Core.Bool.{Bool, true, false, _||_, false≢true}
+use mathlib.Core.Bool.{Bool, true, false, _&&_, _||_, false≢true}
 use mathlib.Core.List.{List, [], _∷_}
 use mathlib.Core.Path.{_≡_, refl, ap₂}
 use native.Mathlib.Omega.{arith}
@@ -19,8 +19,8 @@ use Rattle.ds3231.specs.Numbers.{range}
 use Rattle.ds3231.specs.Clock.{secondsAt}
 use Rattle.ds3231.specs.Timing.{isDefined, opened, noted, commit, accept, nextPointer}
 use Rattle.ds3231.specs.Registers.{registersWritten}
-use Rattle.ds3231.specs.Calls.{inQuarters, sound, chipOn, Step, written, hasRead, step, Call, bus, taking, chipBy, verdict, chipAfter, registerByte, registerAnswer}
-use Rattle.ds3231.specs.Exact.{chipAfterAll}
+use Rattle.ds3231.specs.Calls.{inQuarters, sound, chipOn, Step, written, hasRead, step, stepChip, Call, bus, taking, chipBy, verdict, chipAfter, registerByte, registerAnswer}
+use Rattle.ds3231.specs.Total.{chipAfterAll}
 use Rattle.ds3231.specs.declared.Clock.{Clock}
 use Rattle.ds3231.specs.declared.Phase.{Phase}
 use Rattle.ds3231.specs.declared.Phase.the-variants.{Released, Pointer, Writing, Reading, Ignoring}
@@ -65,11 +65,10 @@ next-in r = chosen (λ x. x ≤ 0x12) (leb 0x12 r) (λ e. omega arith) (λ e. om
 
 others-in : (r b t : ℕ) (g : Registers) → RegistersIn g → RegistersIn (registersWritten r b t g)
 others-in r b t g h =
-    record {
-      quarters = h .quarters;
-      control = chosen (λ x. bitAnd x 0x20 ≡ 0) (eqb r 0x0E) (λ e. control-clear b) (λ e. h .control);
-      status = chosen (λ x. bitAnd x 0x8B ≡ x) (eqb r 0x0F) (λ e. status-within (bitAnd (g .status) b) b) (λ e. h .status);
-    }
+    chosen RegistersIn (leb 0x07 r && leb r 0x0D) (λ e. record { quarters = h .quarters; control = h .control; status = h .status })
+    (λ e. chosen RegistersIn (eqb r 0x0E) (λ e. record { quarters = h .quarters; control = control-clear b; status = h .status })
+    (λ e. chosen RegistersIn (eqb r 0x0F) (λ e. record { quarters = h .quarters; control = h .control; status = status-within (bitAnd (g .status) b) b })
+    (λ e. chosen RegistersIn (eqb r 0x10) (λ e. record { quarters = h .quarters; control = h .control; status = h .status }) (λ e. h))))
 
 -- ---- the events
 
@@ -121,6 +120,9 @@ call-sound (bus s e) c h =
     let i = step-in e c h in
     record { timing = i .0; registers = i .1; waiting = counted-all-in (step e c .reports) (c .diagnostics) (h .waiting) }
 call-sound (taking s o) c h = record { timing = h .timing; registers = h .registers; waiting = omega arith }
+
+pub step-sound : (e : Event) (c : Ds3231) → sound c ≡ true → sound (stepChip (step e c) c) ≡ true
+step-sound e c h = sound-test (stepChip (step e c) c) (call-sound (bus [] e) c (sound-fact c h))
 
 -- refused or not
 pub after-sound : (v : Numbered (Unit {0})) (k : Call) (c : Ds3231) → Sound c → Sound (unless v (chipBy k c) c)

@@ -1,4 +1,4 @@
--- The claim of the exact time is not empty: the case *hour and bad weekday* of document 01, then a burst that sets the time and one that reads 0x00 to 0x06. Each READ meets the claim's condition, and its byte is given.
+-- The claim of the exact time is not empty: the case *hour and bad weekday* of document 01, then a burst that sets the time, one that reads 0x00 to 0x06, a taking, a refused call, and a READ that wraps the pointer. Each READ of the time meets the claim's condition, and its byte is given.
 -- Assumes nothing.
 use Prim.Native.Nat.{ℕ, zero, suc, _+_, _*_, _-_, _/_, _%_, _≤_, _<_}
 use mathlib.Core.Bool.{Bool, true, false}
@@ -20,18 +20,17 @@ use Rattle.diagnostics.specs.declared.ChipName.the-variants.{Ds3231}
 use Rattle.diagnostics.specs.declared.I2cDiagnostic.{I2cDiagnostic}
 use Rattle.diagnostics.specs.declared.I2cDiagnosticKind.the-variants.{ReadOnly}
 use Rattle.ds3231.specs.Numbers.{nanos, range, day}
-use Rattle.ds3231.specs.Calls.{inQuarters, checkedQuarters, chipOn, powerOn, replied, Call, bus, verdict, answer}
-use Rattle.ds3231.specs.Model.{reads, Model, exact, dateWith, clamped, offsetWith, modelOn}
+use Rattle.ds3231.specs.Calls.{inQuarters, checkedQuarters, chipOn, powerOn, replied, Call, bus, taking, lentStore, tooShort, verdict}
+use Rattle.ds3231.specs.Model.{reads, Model, exact, dateWith, clamped, offsetWith, wraps, modelOn}
 use Rattle.ds3231.proofs.Follows.{offset-same, offset-gives}
-use Rattle.ds3231.specs.Exact.{events, fullyLent, modelAfter, ReadsTime, chip, model}
+use Rattle.ds3231.specs.Exact.{events, fullyLent, after, TimeRead, answerTo}
 use Rattle.ds3231.specs.declared.Ds3231Config.{Ds3231Config}
 use Rattle.ds3231.specs.declared.Event.{Event}
 use Rattle.ds3231.specs.declared.Event.the-variants.{Start, Write, Read, Stop}
 use Rattle.ds3231.specs.declared.Reply.the-variants.{Byte}
 use Rattle.ds3231.proofs.Counting.{whole-count}
 use Rattle.ds3231.specs.Exact.{NeverFall, instant}
-use Rattle.ds3231.proofs.Sounds.{sound-run}
-use Rattle.ds3231.proofs.ExactTime.{exact-time, power-on-sound}
+use Rattle.ds3231.proofs.ExactTime.{modelAfter, fed-events, verdict-is, after-power-on, exact-time}
 use Rattle.computed.proofs.Claim.{first, rest}
 use mathlib.Core.Bool.{not, _&&_}
 use lib.Dec.{T, eqb, leb→le}
@@ -98,45 +97,69 @@ seconds-on = let e = rw (in-range-accepted (dateTime 2026 1 1 0 0 0) start-in) a
 
 -- ---- a READ of the witness
 
--- the model after events, each lent a store of 256 records
-abbrev after : List Event → Model
-after es = modelAfter (modelOn config) es
+-- the model after events
+abbrev fedOn : List Event → Model
+fedOn es = modelAfter (modelOn config) es
 
-model-is : (es : List Event) → model config (chipOn config) (on-store es) ≡ after es
-model-is es = ap (modelAfter (modelOn config)) (exact-time config (chipOn config) on (on-store es) .feed ∙ lent es)
+model-is : (ks : List Call) (es : List Event) → fullyLent ks ≡ es → after config (chipOn config) ks .model ≡ fedOn es
+model-is ks es e =
+    fed-events ks (record { chip = chipOn config; model = modelOn config; marked = chipOn config; at = 0 })
+    ∙ ap (modelAfter (modelOn config)) (exact-time config (chipOn config) on ks .feed ∙ e)
 
-allowed : (es : List Event) (t : ℕ) → verdict (bus store (Read false t)) (chip config (chipOn config) (on-store es)) ≡ accepted tt
+-- the verdict on a call after any others
+judged : (ks : List Call) (k : Call) → verdict k (after config (chipOn config) ks .chip)
+    ≡ (if not (eqb (length (lentStore k)) 256) then refused 11 [] else if tooShort k (after config (chipOn config) ks .chip) then refused 12 [] else accepted tt)
+judged ks k = verdict-is k (after config (chipOn config) ks .chip) (after-power-on config (chipOn config) on ks)
+
+allowed : (ks : List Call) (t : ℕ) → verdict (bus store (Read false t)) (after config (chipOn config) ks .chip) ≡ accepted tt
 unfolding store
-allowed es t =
-    ap (λ (b : Bool). if not b then refused 10 [] else if not (eqb (length store) 256) then refused 11 [] else accepted tt)
-    (sound-run (on-store es) (chipOn config) (power-on-sound config (chipOn config) on))
+allowed ks t = judged ks (bus store (Read false t))
 
-append : (xs ys : List Event) → on-store (xs ++ ys) ≡ on-store xs ++ on-store ys
-unfolding on-store
-append [] ys = refl
-append (x ∷ xs) ys = ap (λ (l : List Call). bus store x ∷ l) (append xs ys)
+lent-append : (ks ls : List Call) → fullyLent (ks ++ ls) ≡ fullyLent ks ++ fullyLent ls
+lent-append [] ls = refl
+lent-append (bus s e ∷ ks) ls = by (eqb (length s) 256) (lent-append ks ls)
+  where
+    by : (b : Bool) → fullyLent (ks ++ ls) ≡ fullyLent ks ++ fullyLent ls → (if b then e ∷ fullyLent (ks ++ ls) else fullyLent (ks ++ ls)) ≡ (if b then e ∷ fullyLent ks else fullyLent ks) ++ fullyLent ls
+    by true q = ap (λ (l : List Event). e ∷ l) q
+    by false q = q
+lent-append (taking s o ∷ ks) ls = lent-append ks ls
 
--- a READ at t after the events es meets the claim's condition at register r, and answers b
-pub record Answers (es : List Event) (t r b : ℕ) : Type 0 where
-  pub condition : ReadsTime config (chipOn config) (on-store es) store false t
-  pub register : model config (chipOn config) (on-store es) .pointer ≡ r
-  pub answers : answer (bus store (Read false t)) (chip config (chipOn config) (on-store es)) ≡ accepted (replied (Byte b))
+-- the calls ks, then a READ at t
+pub then-read : List Call → ℕ → List Call
+then-read ks t = ks ++ (bus store (Read false t) ∷ [])
 
-read-at : (es : List Event) (t r b : ℕ) → after es .stage ≡ reads → after es .pointer ≡ r → r ≤ 6 → getD (after es .latched) r 0 ≡ b
-    → T (rises 0 (es ++ (Read false t ∷ []))) → Answers es t r b
-unfolding on-store
-read-at es t r b p q h l u =
-    let m = model-is es in
-    let calls = on-store es ++ (bus store (Read false t) ∷ []) in
-    let c : ReadsTime config (chipOn config) (on-store es) store false t =
-    record { not-refused = allowed es t; reading = ap (λ (x : Model). x .stage) m ∙ p; at-time = subst (λ (x : ℕ). x ≤ 6) (sym (ap (λ (x : Model). x .pointer) m ∙ q)) h } in
-    let f : events (chipOn config) calls ≡ es ++ (Read false t ∷ []) =
-    exact-time config (chipOn config) on calls .feed ∙ ap fullyLent (sym (append es (Read false t ∷ []))) ∙ lent (es ++ (Read false t ∷ [])) in
+-- it meets the claim's condition at register r, and answers b
+pub record Answers (ks : List Call) (t r b : ℕ) : Type 0 where
+  pub condition : TimeRead config (chipOn config) (then-read ks t)
+  pub at-the-end : condition .before ≡ ks
+  pub register : after config (chipOn config) ks .model .pointer ≡ r
+  pub answers : answerTo config (chipOn config) (then-read ks t) condition ≡ accepted (replied (Byte b))
+
+read-at : (ks : List Call) (es : List Event) (t r b : ℕ) → fullyLent ks ≡ es → fedOn es .stage ≡ reads → fedOn es .pointer ≡ r → r ≤ 6 → getD (fedOn es .latched) r 0 ≡ b
+    → T (rises 0 (es ++ (Read false t ∷ []))) → Answers ks t r b
+unfolding then-read store
+read-at ks es t r b e p q h l u =
+    let m = model-is ks es e in
+    let c : TimeRead config (chipOn config) (then-read ks t) =
+    record {
+      before = ks;
+      store = store;
+      acknowledged = false;
+      at = t;
+      later = [];
+      among = refl;
+      not-refused = allowed ks t;
+      reading = ap (λ (x : Model). x .stage) m ∙ p;
+      at-time = subst (λ (x : ℕ). x ≤ 6) (sym (ap (λ (x : Model). x .pointer) m ∙ q)) h;
+    } in
+    let f : events (chipOn config) (then-read ks t) ≡ es ++ (Read false t ∷ []) =
+    exact-time config (chipOn config) on (then-read ks t) .feed ∙ lent-append ks (bus store (Read false t) ∷ []) ∙ ap (λ (x : List Event). x ++ (Read false t ∷ [])) e in
     record {
       condition = c;
+      at-the-end = refl;
       register = ap (λ (x : Model). x .pointer) m ∙ q;
       answers =
-          exact-time config (chipOn config) on calls .answers-model (subst (NeverFall 0) (sym f) (rises-never 0 _ u)) (on-store es) [] store false t refl c
+          exact-time config (chipOn config) on (then-read ks t) .answers-model (subst (NeverFall 0) (sym f) (rises-never 0 _ u)) c
           ∙ ap₂ (λ (x : List ℕ) (y : ℕ). accepted (replied (Byte (getD x y 0)))) (ap (λ (x : Model). x .latched) m) (ap (λ (x : Model). x .pointer) m ∙ q)
           ∙ ap (λ (x : ℕ). accepted (replied (Byte x))) l;
     }
@@ -174,7 +197,7 @@ unclamped d v =
 afternoon : DateTime
 afternoon = dateTime 2026 1 1 13 0 1
 
-case-day : getD (after case .latched) 4 0 ≡ 0x01
+case-day : getD (fedOn case .latched) 4 0 ≡ 0x01
 unfolding case config afternoon bit toDigits fromDigits decimal inField plainMeaning dialMeaning monthMeaning meaning fieldByte timeBytes
 case-day =
     let v = first-of 13 0 1 (omega arith) (omega arith) (omega arith) in
@@ -186,9 +209,9 @@ case-day =
     ∙ ap (λ (n : ℕ). toDigits (timeOf n .day)) (shows afternoon 200_000 499_800_000 v (omega arith))
     ∙ ap (λ (t : DateTime). toDigits (t .day)) (time-of-seconds afternoon v)
 
-pub hour-and-bad-weekday : Answers case 1_500_100_000 4 0x01
+pub hour-and-bad-weekday : Answers (on-store case) 1_500_100_000 4 0x01
 unfolding case config rises bit toDigits fromDigits decimal inField plainMeaning dialMeaning monthMeaning meaning
-hour-and-bad-weekday = read-at case 1_500_100_000 4 0x01 refl refl (omega arith) case-day tt
+hour-and-bad-weekday = read-at (on-store case) case 1_500_100_000 4 0x01 (lent case) refl refl (omega arith) case-day tt
 
 -- ---- what was set is what is read
 
@@ -231,25 +254,110 @@ readings (suc k) = readings k ++ (Read false (2_100_300_000 + k * 100_000) ∷ [
 pub story : ℕ → List Event
 story k = case ++ (case-end ++ (setting ++ readings k))
 
-set-byte : (k : ℕ) → getD (modelAfter (atRest (after (case ++ case-end))) setting .latched) k 0 ≡ getD (0x56 ∷ 0x34 ∷ 0x72 ∷ 0x03 ∷ 0x28 ∷ 0x82 ∷ 0x24 ∷ []) k 0
-set-byte k = ap (λ (l : List ℕ). getD l k 0) (set-latched (after (case ++ case-end)))
+set-byte : (k : ℕ) → getD (modelAfter (atRest (fedOn (case ++ case-end))) setting .latched) k 0 ≡ getD (0x56 ∷ 0x34 ∷ 0x72 ∷ 0x03 ∷ 0x28 ∷ 0x82 ∷ 0x24 ∷ []) k 0
+set-byte k = ap (λ (l : List ℕ). getD l k 0) (set-latched (fedOn (case ++ case-end)))
 
 -- the READs of 0x00 to 0x06 answer the seven bytes that were written
 pub set-and-read :
-    Answers (story 0) 2_100_300_000 0 0x56
-    × Answers (story 1) 2_100_400_000 1 0x34
-    × Answers (story 2) 2_100_500_000 2 0x72
-    × Answers (story 3) 2_100_600_000 3 0x03
-    × Answers (story 4) 2_100_700_000 4 0x28
-    × Answers (story 5) 2_100_800_000 5 0x82
-    × Answers (story 6) 2_100_900_000 6 0x24
+    Answers (on-store (story 0)) 2_100_300_000 0 0x56
+    × Answers (on-store (story 1)) 2_100_400_000 1 0x34
+    × Answers (on-store (story 2)) 2_100_500_000 2 0x72
+    × Answers (on-store (story 3)) 2_100_600_000 3 0x03
+    × Answers (on-store (story 4)) 2_100_700_000 4 0x28
+    × Answers (on-store (story 5)) 2_100_800_000 5 0x82
+    × Answers (on-store (story 6)) 2_100_900_000 6 0x24
 unfolding story readings case case-end setting config rises bit toDigits fromDigits decimal inField plainMeaning dialMeaning monthMeaning meaning
 set-and-read = (
-  read-at (story 0) 2_100_300_000 0 0x56 refl refl (omega arith) (set-byte 0) tt,
-  read-at (story 1) 2_100_400_000 1 0x34 refl refl (omega arith) (set-byte 1) tt,
-  read-at (story 2) 2_100_500_000 2 0x72 refl refl (omega arith) (set-byte 2) tt,
-  read-at (story 3) 2_100_600_000 3 0x03 refl refl (omega arith) (set-byte 3) tt,
-  read-at (story 4) 2_100_700_000 4 0x28 refl refl (omega arith) (set-byte 4) tt,
-  read-at (story 5) 2_100_800_000 5 0x82 refl refl (omega arith) (set-byte 5) tt,
-  read-at (story 6) 2_100_900_000 6 0x24 refl refl (omega arith) (set-byte 6) tt,
+  set-read 0 0x56 refl refl (omega arith) (set-byte 0) tt,
+  set-read 1 0x34 refl refl (omega arith) (set-byte 1) tt,
+  set-read 2 0x72 refl refl (omega arith) (set-byte 2) tt,
+  set-read 3 0x03 refl refl (omega arith) (set-byte 3) tt,
+  set-read 4 0x28 refl refl (omega arith) (set-byte 4) tt,
+  set-read 5 0x82 refl refl (omega arith) (set-byte 5) tt,
+  set-read 6 0x24 refl refl (omega arith) (set-byte 6) tt,
 )
+  where
+    set-read : (k b : ℕ) → fedOn (story k) .stage ≡ reads → fedOn (story k) .pointer ≡ k → k ≤ 6 → getD (fedOn (story k) .latched) k 0 ≡ b
+        → T (rises 0 (story k ++ (Read false (2_100_300_000 + k * 100_000) ∷ []))) → Answers (on-store (story k)) (2_100_300_000 + k * 100_000) k b
+    set-read k b = read-at (on-store (story k)) (story k) (2_100_300_000 + k * 100_000) k b (lent (story k))
+
+-- ---- a taking, a refused call, and a READ that wraps the pointer
+
+-- 12:34:56 was set at 2.0002 s. The pointer is set to 0x12 for a read, with a taking and a call that is lent no store before it
+pub to-the-last : List Event
+to-the-last = Stop 2_101_000_000 ∷ Start 0x68 false 3_900_000_000 ∷ Write 0x12 3_900_100_000 ∷ Start 0x68 true 4_000_000_000 ∷ []
+
+pub before-taking : List Call
+before-taking = on-store (story 7)
+
+pub before-refused : List Call
+before-refused = before-taking ++ (taking store store ∷ [])
+
+pub refused-call : Call
+refused-call = bus [] (Start 0x68 false 2_100_950_000)
+
+pub before-wrap : List Call
+before-wrap = before-refused ++ (refused-call ∷ on-store to-the-last)
+
+pub taking-allowed : verdict (taking store store) (after config (chipOn config) before-taking .chip) ≡ accepted tt
+unfolding store
+taking-allowed =
+    judged before-taking (taking store store)
+    ∙ ap (λ (b : Bool). if b then refused 12 [] else accepted tt) (le-ltb 256 (after config (chipOn config) before-taking .chip .diagnostics .waiting) (after-power-on config (chipOn config) on before-taking .waiting))
+
+pub call-refused : verdict refused-call (after config (chipOn config) before-refused .chip) ≡ refused 11 []
+unfolding refused-call
+call-refused = judged before-refused refused-call
+
+lent-to-wrap : fullyLent before-wrap ≡ story 7 ++ to-the-last
+unfolding before-wrap before-refused before-taking refused-call
+lent-to-wrap =
+    lent-append (on-store (story 7) ++ (taking store store ∷ [])) (refused-call ∷ on-store to-the-last)
+    ∙ ap₂ (λ (x y : List Event). x ++ y) (lent-append (on-store (story 7)) (taking store store ∷ []) ∙ ap (λ (x : List Event). x ++ []) (lent (story 7)) ∙ same (story 7)) (lent to-the-last)
+  where
+    same : (es : List Event) → es ++ [] ≡ es
+    same [] = refl
+    same (e ∷ es) = ap (λ (l : List Event). e ∷ l) (same es)
+
+-- the READ at 5.0003 s wraps
+pub wraps-there : wraps (after config (chipOn config) before-wrap .model) ≡ true
+unfolding story readings case case-end setting to-the-last config bit toDigits fromDigits decimal inField plainMeaning dialMeaning monthMeaning meaning
+wraps-there = ap wraps (model-is before-wrap (story 7 ++ to-the-last) lent-to-wrap)
+
+-- and latches 12:34:59
+later : DateTime
+later = dateTime 2124 2 28 12 34 59
+
+later-in : InRange later
+unfolding later
+later-in = omega (arith, month-bounds 2124 2)
+
+wrap-second : (m : Model) → getD (modelAfter (atRest m) (setting ++ (readings 7 ++ (to-the-last ++ (Read false 5_000_300_000 ∷ [])))) .latched) 0 0 ≡ 0x59
+unfolding readings setting set-time later to-the-last bit toDigits fromDigits decimal inField plainMeaning dialMeaning monthMeaning meaning fieldByte timeBytes
+wrap-second m =
+    ap (λ (d : DateTime). toDigits (timeOf ((secondsOf (clamped d) * nanos + 0 + 3_000_100_000) % (range * nanos) / nanos) .second)) (date-set (timeOf (exact (atRest m) 2_000_200_000 / nanos)))
+    ∙ ap (λ (d : DateTime). toDigits (timeOf ((secondsOf d * nanos + 0 + 3_000_100_000) % (range * nanos) / nanos) .second)) (unclamped set-time set-in)
+    ∙ ap (λ (n : ℕ). toDigits (timeOf (n % (range * nanos) / nanos) .second)) three-on
+    ∙ ap (λ (n : ℕ). toDigits (timeOf n .second)) (shows later 0 100_000 later-in (omega arith))
+    ∙ ap (λ (t : DateTime). toDigits (t .second)) (time-of-seconds later later-in)
+  where
+    three-on : secondsOf set-time * nanos + 0 + 3_000_100_000 ≡ secondsOf later * nanos + 0 + 100_000
+    three-on = omega (arith, seconds-formula set-time, seconds-formula later)
+
+-- the READ after it answers the second of the wrap, not of the START a second before
+pub wrapped : List Call
+wrapped = before-wrap ++ (bus store (Read false 5_000_300_000) ∷ [])
+
+pub read-after-wrap : Answers wrapped 5_000_400_000 0 0x59
+unfolding wrapped store story readings case case-end setting to-the-last config rises bit toDigits fromDigits decimal inField plainMeaning dialMeaning monthMeaning meaning
+read-after-wrap =
+    read-at wrapped (story 7 ++ (to-the-last ++ (Read false 5_000_300_000 ∷ []))) 5_000_400_000 0 0x59 lent-all refl refl (omega arith) (wrap-second (fedOn (case ++ case-end))) tt
+  where
+    lent-all : fullyLent wrapped ≡ story 7 ++ (to-the-last ++ (Read false 5_000_300_000 ∷ []))
+    lent-all = lent-append before-wrap (bus store (Read false 5_000_300_000) ∷ []) ∙ ap (λ (x : List Event). x ++ (Read false 5_000_300_000 ∷ [])) lent-to-wrap
+
+-- ---- seconds alone do not tell a time
+
+-- 12:65:07 has the seconds of 13:05:07, and only `InRange` shuts it out
+pub late-minute : (secondsOf (dateTime 2026 1 1 12 65 7) ≡ secondsOf (dateTime 2026 1 1 13 5 7)) × (InRange (dateTime 2026 1 1 12 65 7) → ⊥)
+late-minute = (omega (arith, seconds-formula (dateTime 2026 1 1 12 65 7), seconds-formula (dateTime 2026 1 1 13 5 7)), λ v. let h = v .minute-to in omega arith)

@@ -8,9 +8,9 @@ use lib.Dec.{leb, ltb, eqb}
 use lib.IntN.{ℤ, pos, negsuc}
 use lib.ListN.{length, take, drop, replicate}
 use lib.Signed.{leZ}
-use Rattle.refusals.specs.Numbered.{Numbered, accepted, refused, andThen, unless}
+use Rattle.refusals.specs.Numbered.{Numbered, accepted, refused, isAccepted, andThen, unless}
 use Rattle.computed.specs.Choice.{if_then_else_}
-use Rattle.calendar.specs.Stated.{checked, weekdayOf, monthLength}
+use Rattle.calendar.specs.Stated.{checked, withDay, weekdayOf, monthLength}
 use Rattle.calendar.specs.declared.DateTime.{DateTime}
 use Rattle.fields.specs.Table.{toDigits, meaning}
 use Rattle.diagnostics.specs.Reports.{report, countedAll, storedAll}
@@ -18,7 +18,7 @@ use Rattle.diagnostics.specs.declared.I2cDiagnosticKind.the-variants.{NotModell
 use Rattle.diagnostics.specs.declared.I2cDiagnostic.{I2cDiagnostic}
 use Rattle.ds3231.specs.Numbers.{range}
 use Rattle.ds3231.specs.Clock.{timeAt, clockSet}
-use Rattle.ds3231.specs.Timing.{isDefined, shownAt, latch, inPhase, pointed, commit, accept, nextPointer, addressed}
+use Rattle.ds3231.specs.Timing.{isDefined, shownAt, latch, inPhase, pointed, commit, accept, nextPointer, phaseFor}
 use Rattle.ds3231.specs.Registers.{byteAt, enablesOutput, registersWritten}
 use Rattle.ds3231.specs.declared.PendingTime.{PendingTime}
 use Rattle.ds3231.specs.declared.Phase.{Phase}
@@ -36,9 +36,7 @@ use Rattle.ds3231.specs.declared.Reply.the-variants.{Acknowledge, Byte, 
 
 -- a pending time is valid apart from its day, which is 1 to 31, and its weekday 1 to 7
 unfoldable pub soundTime : DateTime → Bool
-soundTime t =
-    leb 2000 (t .year) && leb (t .year) 2199 && leb 1 (t .month) && leb (t .month) 12 && leb 1 (t .day) && leb (t .day) 31
-    && leb (t .hour) 23 && leb (t .minute) 59 && leb (t .second) 59
+soundTime t = isAccepted (checked (withDay 1 t)) && leb 1 (t .day) && leb (t .day) 31
 
 unfoldable pub soundPending : PendingTime → Bool
 soundPending p = soundTime (p .time) && leb 1 (p .weekday) && leb (p .weekday) 7
@@ -150,7 +148,7 @@ repliedOnly y c = record { timing = c .timing; registers = c .registers; reports
 -- START commits and latches, whomever it addresses; it is acknowledged by 0x68 alone
 abbrev pub started : ℕ → Bool → ℕ → Chip.Ds3231 → Step
 started a r t c = record {
-  timing = inPhase (addressed a r) (latch t (commit (c .timing)));
+  timing = inPhase (phaseFor a r) (latch t (commit (c .timing)));
   registers = c .registers;
   reports = commitReports t (c .timing);
   reply = Acknowledge (eqb a 0x68);

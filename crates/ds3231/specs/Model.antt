@@ -1,8 +1,9 @@
 -- Document 01's model of the exact time. It is fed the kind, instant, address, read bit and byte of each bus call that is not refused, and no answers. It shares with the chip's side `meaning`, `timeBytes`, the calendar, the numbers of `Numbers`, the events and the configuration, and nothing else.
 -- Assumes nothing.
-use Prim.Native.Nat.{ℕ, zero, suc, _+_, _*_, _-_, _/_, _%_}
-use mathlib.Core.Bool.{Bool, false}
+use Prim.Native.Nat.{ℕ, _+_, _*_, _-_, _/_, _%_, _≤_}
+use mathlib.Core.Bool.{Bool, true, false, _&&_}
 use mathlib.Core.List.{List, [], _∷_, _++_}
+use mathlib.Core.Path.{_≡_}
 use lib.Dec.{leb, ltb, eqb}
 use Rattle.computed.specs.Choice.{if_then_else_}
 use Rattle.calendar.specs.Stated.{secondsOf, timeOf, monthLength, dayNumber, withDay}
@@ -48,9 +49,13 @@ exact m t = (m .count + (t - m .since)) % (range * nanos)
 abbrev pub wholeSecond : Model → ℕ → ℕ
 wholeSecond m t = exact m t / nanos
 
+-- the weekday of a day, from 2000-01-01 as day 0, with an offset
+abbrev pub weekdayFor : ℕ → ℕ → ℕ
+weekdayFor days offset = (days + offset) % 7 + 1
+
 -- the weekday then
 abbrev pub exactWeekday : Model → ℕ → ℕ
-exactWeekday m t = (wholeSecond m t / day + m .offset) % 7 + 1
+exactWeekday m t = weekdayFor (wholeSecond m t / day) (m .offset)
 
 -- the seven bytes to latch
 abbrev pub exactBytes : Model → ℕ → List ℕ
@@ -87,13 +92,18 @@ abbrev pub weekdayBy : List Accepted → ℕ → ℕ
 weekdayBy [] w = w
 weekdayBy (a ∷ l) w = weekdayBy l (weekdayWith (meaning (a .register) (a .value)) w)
 
--- the offset, 0 to 6, with which the day has the weekday: the first of o, o + 1, .. that gives it, of which k are left to try before the last, which is given untested
-abbrev pub offsetFrom : ℕ → ℕ → ℕ → ℕ → ℕ
-offsetFrom zero o days w = o
-offsetFrom (suc k) o days w = if eqb ((days + o) % 7 + 1) w then o else offsetFrom k (o + 1) days w
+-- the offset, 0 to 6, with which the day has the weekday
+pub record IsOffset (days weekday offset : ℕ) : Type 0 where
+  pub at-most : offset ≤ 6
+  pub gives : weekdayFor days offset ≡ weekday
+
+-- computed: the first of 0 to 6 that gives the weekday, and for what is no weekday 7. Theorem `the-offset` of proofs/Follows.antt: it is the one
+abbrev pub firstOffset : List ℕ → ℕ → ℕ → ℕ
+firstOffset [] days w = 7
+firstOffset (o ∷ os) days w = if eqb (weekdayFor days o) w then o else firstOffset os days w
 
 unfoldable pub offsetWith : ℕ → ℕ → ℕ
-offsetWith days w = offsetFrom 6 0 days w
+offsetWith days w = firstOffset (0 ∷ 1 ∷ 2 ∷ 3 ∷ 4 ∷ 5 ∷ 6 ∷ []) days w
 
 -- the instant of the last accepted seconds byte, if there is one
 pub data Instant : Type 0 where
@@ -186,31 +196,30 @@ writeIn awaitsPointer b t m = if leb b 0x12 then standing writes (pointing b m) 
 writeIn writes b t m = pointing (movedPointer (m .pointer)) (keeping (m .pointer) b t m)
 
 -- a READ, addressed for reading, moves the pointer from 0x12 to 0, where it latches anew
-abbrev pub wrapsIn : Stage → ℕ → Bool
-wrapsIn unaddressed r = false
-wrapsIn awaitsPointer r = false
-wrapsIn writes r = false
-wrapsIn drops r = false
-wrapsIn reads r = leb 0x12 r
+abbrev pub isReads : Stage → Bool
+isReads unaddressed = false
+isReads awaitsPointer = false
+isReads writes = false
+isReads drops = false
+isReads reads = true
 
 abbrev pub wraps : Model → Bool
-wraps m = wrapsIn (m .stage) (m .pointer)
+wraps m = isReads (m .stage) && leb 0x12 (m .pointer)
 
-abbrev pub readIn : Stage → ℕ → Model → Model
-readIn unaddressed t m = m
-readIn awaitsPointer t m = m
-readIn writes t m = m
-readIn drops t m = m
-readIn reads t m = if leb 0x12 (m .pointer) then latching t (pointing 0 m) else pointing (m .pointer + 1) m
+abbrev pub readBy : ℕ → Model → Model
+readBy t m =
+    if wraps m then latching t (pointing 0 m)
+    else if isReads (m .stage) then pointing (m .pointer + 1) m
+    else m
 
 -- START addresses the model by its read bit if it names 0x68
-abbrev pub addressedBy : ℕ → Bool → Stage
-addressedBy address read = if eqb address 0x68 then (if read then reads else awaitsPointer) else unaddressed
+abbrev pub stageFor : ℕ → Bool → Stage
+stageFor address read = if eqb address 0x68 then (if read then reads else awaitsPointer) else unaddressed
 
 abbrev pub fed : Event → Model → Model
-fed (Start a r t) m = standing (addressedBy a r) (latching t (closed m))
+fed (Start a r t) m = standing (stageFor a r) (latching t (closed m))
 fed (Write b t) m = writeIn (m .stage) b t m
-fed (Read k t) m = readIn (m .stage) t m
+fed (Read k t) m = readBy t m
 fed (Stop t) m = standing unaddressed (closed m)
 
 -- at power-on: the configured seconds at instant 0, unaddressed, 24-hour mode, offset 5

@@ -49,14 +49,32 @@ enablesOutput b = eqb (bitAnd b 0x04) 0 || not (eqb (bitAnd b 0x03) 0)
 abbrev pub startsConversion : ℕ → ℕ → Registers → Bool
 startsConversion b t g = not (eqb (bitAnd b 0x20) 0) && not (converting g t)
 
+-- an alarm byte; control keeps the byte without bit 5; a status bit of 0x83 can only be cleared, bit 3 is as written; aging
+abbrev pub alarmWritten : ℕ → ℕ → Registers → Registers
+alarmWritten i b g = record { alarms = set (g .alarms) i b; control = g .control; status = g .status; «conversion_end» = g .«conversion_end»; aging = g .aging; «temperature_quarters» = g .«temperature_quarters»; «int_sqw_reported» = g .«int_sqw_reported» }
+
+abbrev pub controlWritten : ℕ → ℕ → Registers → Registers
+controlWritten b t g = record {
+  alarms = g .alarms;
+  control = bitAnd b 0xDF;
+  status = g .status;
+  «conversion_end» = if startsConversion b t g then min (t + 200_000_000) 0xFFFF_FFFF_FFFF_FFFF else g .«conversion_end»;
+  aging = g .aging;
+  «temperature_quarters» = g .«temperature_quarters»;
+  «int_sqw_reported» = enablesOutput b || g .«int_sqw_reported»;
+}
+
+abbrev pub statusWritten : ℕ → Registers → Registers
+statusWritten b g = record { alarms = g .alarms; control = g .control; status = bitOr (bitAnd (bitAnd (g .status) b) 0x83) (bitAnd b 0x08); «conversion_end» = g .«conversion_end»; aging = g .aging; «temperature_quarters» = g .«temperature_quarters»; «int_sqw_reported» = g .«int_sqw_reported» }
+
+abbrev pub agingWritten : ℕ → Registers → Registers
+agingWritten b g = record { alarms = g .alarms; control = g .control; status = g .status; «conversion_end» = g .«conversion_end»; aging = b; «temperature_quarters» = g .«temperature_quarters»; «int_sqw_reported» = g .«int_sqw_reported» }
+
 -- a byte written to register r at t
 abbrev pub registersWritten : ℕ → ℕ → ℕ → Registers → Registers
-registersWritten r b t g = record {
-  alarms = if leb 0x07 r && leb r 0x0D then set (g .alarms) (r - 7) b else g .alarms;
-  control = if eqb r 0x0E then bitAnd b 0xDF else g .control;
-  status = if eqb r 0x0F then bitOr (bitAnd (bitAnd (g .status) b) 0x83) (bitAnd b 0x08) else g .status;
-  «conversion_end» = if eqb r 0x0E && startsConversion b t g then min (t + 200_000_000) 0xFFFF_FFFF_FFFF_FFFF else g .«conversion_end»;
-  aging = if eqb r 0x10 then b else g .aging;
-  «temperature_quarters» = g .«temperature_quarters»;
-  «int_sqw_reported» = eqb r 0x0E && enablesOutput b || g .«int_sqw_reported»;
-}
+registersWritten r b t g =
+    if leb 0x07 r && leb r 0x0D then alarmWritten (r - 7) b g
+    else if eqb r 0x0E then controlWritten b t g
+    else if eqb r 0x0F then statusWritten b g
+    else if eqb r 0x10 then agingWritten b g
+    else g

@@ -110,5 +110,5 @@ abbrev pub nextPointer : ℕ → ℕ
 nextPointer r = if leb 0x12 r then 0 else r + 1
 
 -- the phase after a START: only 0x68 is addressed
-abbrev pub addressed : ℕ → Bool → Phase
-addressed address read = if eqb address 0x68 then (if read then Reading else Pointer) else Released
+abbrev pub phaseFor : ℕ → Bool → Phase
+phaseFor address read = if eqb address 0x68 then (if read then Reading else Pointer) else Released

@@ -6,19 +6,23 @@ use mathlib.Core.Path.{_≡_}
 use lib.ListN.{length}
 use Rattle.refusals.specs.Numbered.{Numbered, accepted, refused}
 use Rattle.ds3231.specs.Calls.{step, Answered, replied, copied, Call, bus, taking, powerOn, verdict, chipAfter, answer}
-use Rattle.ds3231.specs.Exact.{chipAfterAll}
 use Rattle.ds3231.specs.declared.Ds3231.{Ds3231}
 use Rattle.ds3231.specs.declared.Ds3231Config.{Ds3231Config}
 
+-- the chip after calls, each getting the chip that the last one left
+abbrev pub chipAfterAll : Ds3231 → List Call → Ds3231
+chipAfterAll c [] = c
+chipAfterAll c (k ∷ ks) = chipAfterAll (chipAfter k c) ks
+
 -- the reports of a call: those of its event, if it is not refused
-abbrev pub reportsOf : Numbered (Unit {0}) → Call → Ds3231 → ℕ
-reportsOf (refused n vs) k c = 0
-reportsOf (accepted u) (bus s e) c = length (step e c .reports)
-reportsOf (accepted u) (taking s o) c = 0
+abbrev pub reportsBy : Numbered (Unit {0}) → Call → Ds3231 → ℕ
+reportsBy (refused n vs) k c = 0
+reportsBy (accepted u) (bus s e) c = length (step e c .reports)
+reportsBy (accepted u) (taking s o) c = 0
 
 abbrev pub reported : Ds3231 → List Call → ℕ
 reported c [] = 0
-reported c (k ∷ ks) = reportsOf (verdict k c) k c + reported (chipAfter k c) ks
+reported c (k ∷ ks) = reportsBy (verdict k c) k c + reported (chipAfter k c) ks
 
 -- the records taken: what takings that are not refused answer
 abbrev pub takenIn : Answered → ℕ

@@ -11,7 +11,8 @@ use Rattle.diagnostics.proofs.Rows.{diagnostic, diagnostic-data}
 use Rattle.diagnostics.proofs.Stores.{write-within, writes, leaves}
 use Rattle.ds3231.specs.declared.Event.{Event}
 use Rattle.ds3231.specs.declared.Event.the-variants.{Start, Write, Read, Stop}
-use Rattle.ds3231_bus.specs.Answers.{Called, OutcomeOn}
+use Rattle.ds3231_bus.specs.Answers.{Called}
+use Rattle.ds3231_bus.specs.ByValue.{CalledOnStores}
 use Rattle.ds3231_bus.specs.declared.outcomes.Outcome.{Outcome}
 use Rattle.ds3231_bus.proofs.Rows.{chip, chip-data}
 use Rattle.ds3231_bus.proofs.BusAnswer as N
@@ -82,7 +83,7 @@ stop xs = Stop (xs .0)
 
 module _ (es : List Extra) (event : Values es → Event) where
   abbrev Made : Makes chip answer diagnostic es outcome
-  Made c len xs r = OutcomeOn (event xs) c len r
+  Made c len xs r = CalledOnStores (event xs) c len r
 
   abbrev pub Said : Claims chip answer diagnostic es
   Said c s xs a c′ s′ = Called (event xs) c s a c′ s′

@@ -4,3 +4,4 @@ pub mod TakingLaws
 pub mod Rows
 pub mod BusRows
 pub mod TakingRows
+pub mod SoundLaws

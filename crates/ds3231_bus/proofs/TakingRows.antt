@@ -11,7 +11,8 @@ use Rattle.walking.proofs.Copied.{Copied}
 use Rattle.walking.proofs.Taking.{Takings, TakLaws}
 use Rattle.diagnostics.specs.declared.I2cDiagnostic.{I2cDiagnostic}
 use Rattle.ds3231.specs.declared.Ds3231.{Ds3231}
-use Rattle.ds3231_bus.specs.Answers.{Took, TakingOn}
+use Rattle.ds3231_bus.specs.Answers.{Took}
+use Rattle.ds3231_bus.specs.ByValue.{TookOnStores}
 use Rattle.ds3231_bus.specs.declared.takings.Taking.{Taking}
 use Rattle.ds3231_bus.proofs.Rows.{chip, chip-data}
 use Rattle.ds3231_bus.proofs.TakeAnswer as N
@@ -52,8 +53,8 @@ laws = record {
   answer-is = λ r is. LL.owed O.the-type O′.the-laws r _ is .1 .0;
 }
 
-pub within : (c : Ds3231) (len room : ℕ) (r : Taking) → TakingOn c len room r → (r .count ≤ len) × (r .count ≤ room)
+pub within : (c : Ds3231) (len room : ℕ) (r : Taking) → TookOnStores c len room r → (r .count ≤ len) × (r .count ≤ room)
 within c len room r on = (on .in-store, on .in-out)
 
-pub took : (c : Ds3231) (s o : List I2cDiagnostic) (r : Taking) → TakingOn c (length s) (length o) r → Took c s o (r .answer) (r .chip) s (Copied s o (r .count))
+pub took : (c : Ds3231) (s o : List I2cDiagnostic) (r : Taking) → TookOnStores c (length s) (length o) r → Took c s o (r .answer) (r .chip) s (Copied s o (r .count))
 took c s o r on = on .did s o refl refl

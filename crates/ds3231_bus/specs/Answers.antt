@@ -1,22 +1,14 @@
 -- What the calls on a lent chip and store promise: document 01's answer, chip, store and output of each call.
 -- Assumes nothing.
-use Prim.Native.Nat.{ℕ, _<_, _≤_}
-use mathlib.Core.Bool.{true, false}
-use mathlib.Core.List.{List, [], _++_}
+use mathlib.Core.List.{List, []}
 use mathlib.Core.Path.{_≡_}
-use lib.ListN.{length, take, drop}
 use Rattle.refusals.specs.Numbered.{Numbered, accepted, refused}
-use Rattle.diagnostics.specs.Reports.{storedAll}
-use Rattle.diagnostics.specs.Lent.{writtenIf, OnStores}
-use Rattle.diagnostics.specs.declared.Diagnostics.{Diagnostics}
 use Rattle.diagnostics.specs.declared.I2cDiagnostic.{I2cDiagnostic}
 use Rattle.ds3231.specs.Calls.{Answered, replied, copied, bus, taking, chipAfter, storeAfter, outAfter, answer}
 use Rattle.ds3231.specs.declared.Ds3231.{Ds3231}
 use Rattle.ds3231.specs.declared.Event.{Event}
 use Rattle.ds3231_bus.specs.declared.BusAnswer as BusAnswer
 use Rattle.ds3231_bus.specs.declared.TakeAnswer as TakeAnswer
-use Rattle.ds3231_bus.specs.declared.outcomes.Outcome.{Outcome}
-use Rattle.ds3231_bus.specs.declared.takings.Taking.{Taking}
 
 abbrev pub busNumbered : BusAnswer.BusAnswer → Numbered Answered
 busNumbered (BusAnswer.the-variants.Replied y) = accepted (replied y)
@@ -41,28 +33,3 @@ pub record Took (c : Ds3231) (s o : List I2cDiagnostic) (a : TakeAnswer.TakeAnsw
   pub chip : c′ ≡ chipAfter (taking s o) c
   pub store : s′ ≡ storeAfter (taking s o) c
   pub out : o′ ≡ outAfter (taking s o) c
-
--- ---- the functions by value below them
-
--- a bus call by value, with a store of len records
-abbrev pub OutcomeOn : Event → Ds3231 → ℕ → Outcome → Type 0
-OutcomeOn e c len r = OnStores len (r .write) (r .slot) (r .diagnostic) (λ s s′. Called e c s (r .answer) (r .chip) s′)
-
--- what a bus call leaves that writes no record
-pub record Unwritten (c : Ds3231) (a : BusAnswer.BusAnswer) (r : Outcome) : Type 0 where
-  pub chip : r .chip ≡ c
-  pub answer : r .answer ≡ a
-  pub write : r .write ≡ false
-
--- what a bus call leaves of a store of 256 records after an event that makes the reports ds, with the counts n before it
-pub record Stores (c : Ds3231) (a : BusAnswer.BusAnswer) (ds : List I2cDiagnostic) (n : Diagnostics) (r : Outcome) : Type 0 where
-  pub chip : r .chip ≡ c
-  pub answer : r .answer ≡ a
-  pub store : (s : List I2cDiagnostic) → writtenIf (r .write) (r .slot) (r .diagnostic) s ≡ storedAll ds n s
-  pub within : r .write ≡ true → r .slot < 256
-
--- what taking leaves, for every store of len records and every output of room; no more is copied than either has
-pub record TakingOn (c : Ds3231) (len room : ℕ) (r : Taking) : Type 0 where
-  pub did : (s o : List I2cDiagnostic) → length s ≡ len → length o ≡ room → Took c s o (r .answer) (r .chip) s (take (r .count) s ++ drop (r .count) o)
-  pub in-store : r .count ≤ len
-  pub in-out : r .count ≤ room

@@ -2,7 +2,7 @@
 // one is written.
 ghost use Rattle.ds3231.specs.declared.Event.the-variants.{Start, Write, Read, Stop};
 ghost use Rattle.ds3231_step.specs.Answers.{reportsOf};
-ghost use Rattle.ds3231_bus.specs.Answers.{OutcomeOn, Stores, Unwritten};
+ghost use Rattle.ds3231_bus.specs.ByValue.{CalledOnStores, WritesReports, Unwritten};
 ghost use Rattle.ds3231_bus.specs.declared.BusAnswer.the-variants.{Replied};
 use crate::BusAnswer;
 use diagnostics::ChipName;
@@ -28,35 +28,35 @@ pub(crate) struct Outcome {
 
 // START, with a store of `len` records.
 pub(crate) fn addressed(chip: Ds3231, len: usize, address: u8, read: bool, at: u64) -> Outcome
-    ensures { λ r. ⌜ OutcomeOn (Start address read at) chip len r ⌝ }
+    ensures { λ r. ⌜ CalledOnStores (Start address read at) chip len r ⌝ }
 {
     called(chip, len, Event::Start { address, read, at })
 }
 
 // WRITE, with a store of `len` records.
 pub(crate) fn written(chip: Ds3231, len: usize, byte: u8, at: u64) -> Outcome
-    ensures { λ r. ⌜ OutcomeOn (Write byte at) chip len r ⌝ }
+    ensures { λ r. ⌜ CalledOnStores (Write byte at) chip len r ⌝ }
 {
     called(chip, len, Event::Write { byte, at })
 }
 
 // READ, with a store of `len` records.
 pub(crate) fn has_read(chip: Ds3231, len: usize, acknowledged: bool, at: u64) -> Outcome
-    ensures { λ r. ⌜ OutcomeOn (Read acknowledged at) chip len r ⌝ }
+    ensures { λ r. ⌜ CalledOnStores (Read acknowledged at) chip len r ⌝ }
 {
     called(chip, len, Event::Read { acknowledged, at })
 }
 
 // STOP, with a store of `len` records.
 pub(crate) fn stopped(chip: Ds3231, len: usize, at: u64) -> Outcome
-    ensures { λ r. ⌜ OutcomeOn (Stop at) chip len r ⌝ }
+    ensures { λ r. ⌜ CalledOnStores (Stop at) chip len r ⌝ }
 {
     called(chip, len, Event::Stop { at })
 }
 
 // An event: refused with 10 where the chip is not sound, then with 11 where the store does not have 256 records.
 fn called(chip: Ds3231, len: usize, event: Event) -> Outcome
-    ensures { λ r. ⌜ OutcomeOn event chip len r ⌝ }
+    ensures { λ r. ⌜ CalledOnStores event chip len r ⌝ }
 {
     if !is_sound(chip) {
         return unwritten(chip, BusAnswer::NotSound);
@@ -70,7 +70,7 @@ fn called(chip: Ds3231, len: usize, event: Event) -> Outcome
 
 // The report is written at the waiting count before it, unless the store is full.
 fn stored(stepped: Stepped, counts: Diagnostics) -> Outcome
-    ensures { λ r. ⌜ Stores (stepped .chip) (Replied (stepped .reply)) (reportsOf (stepped .report)) counts r ⌝ }
+    ensures { λ r. ⌜ WritesReports (stepped .chip) (Replied (stepped .reply)) (reportsOf (stepped .report)) counts r ⌝ }
 {
     let chip = stepped.chip;
     let reply = stepped.reply;

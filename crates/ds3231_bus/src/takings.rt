@@ -1,6 +1,6 @@
 // What taking leaves, by value: the chip, the answer, and how many records are copied.
 ghost use mathlib.Core.Path.{_≡_};
-ghost use Rattle.ds3231_bus.specs.Answers.{TakingOn};
+ghost use Rattle.ds3231_bus.specs.ByValue.{TookOnStores};
 use crate::TakeAnswer;
 use diagnostics::Diagnostics;
 use diagnostics::MAX_DIAGNOSTICS;
@@ -15,7 +15,7 @@ pub(crate) struct Taking {
 
 // Taking from a store of `len` records into an output of `room`.
 pub(crate) fn taken(chip: Ds3231, len: usize, room: usize) -> Taking
-    ensures { λ r. ⌜ TakingOn chip len room r ⌝ }
+    ensures { λ r. ⌜ TookOnStores chip len room r ⌝ }
 {
     if !is_sound(chip) {
         return refused(chip, TakeAnswer::NotSound);

@@ -1,4 +1,4 @@
--- What power-on answers: on, refused for its start, and refused for its temperature; and that the chip of a refused power-on is not sound.
+-- What power-on answers: on, refused for its start, and refused for its temperature; that the chip of a refused power-on is not sound, and any other is.
 -- Assumes nothing.
 use mathlib.Core.Bool.{Bool, true, false}
 use mathlib.Core.List.{[], _∷_}
@@ -9,6 +9,7 @@ use Rattle.calendar.specs.Stated.{checked}
 use Rattle.calendar.specs.Answers.{refusedBy}
 use Rattle.calendar.specs.declared.DateTimeError.{DateTimeError}
 use Rattle.ds3231.specs.Calls.{sound, soundTiming, inQuarters, checkedQuarters, chipOn, powerOn}
+use Rattle.ds3231.proofs.ExactTime.{power-on-sound, power-on-offset}
 use Rattle.ds3231.specs.declared.Ds3231.{Ds3231}
 use Rattle.ds3231.specs.declared.Ds3231Config.{Ds3231Config}
 use Rattle.ds3231_chip.specs.Answers.{noChip, poweredAnswer, poweredChip, PoweredOn}
@@ -45,3 +46,9 @@ module _ (f : Ds3231Config) (r : PowerOn) where
 pub no-chip-not-sound : sound noChip ≡ false
 unfolding sound soundTiming
 no-chip-not-sound = refl
+
+-- a power-on that is not refused gives a sound chip, with offset 5
+pub powered-sound : (f : Ds3231Config) (r : PowerOn) → PoweredOn f r → r .answer ≡ On → (sound (r .chip) ≡ true) × (r .chip .timing .clock .«weekday_offset» ≡ 5)
+powered-sound f r p a =
+    let e : powerOn f ≡ accepted (r .chip) = sym (p .answer) ∙ ap (λ (x : PowerOnAnswer). poweredAnswer x (r .chip)) a in
+    (power-on-sound f (r .chip) e, power-on-offset f (r .chip) e)

@@ -7,14 +7,13 @@ use native.Mathlib.Nat.{lt-of-le-of-lt}
 use native.Mathlib.Omega.{arith}
 use lib.Dec.{T, leb}
 use lib.IntN.{ℤ, pos, negsuc, _-ℤ_, natAbs}
-use lib.ListN.{set}
 use lib.Signed.{mag, ltZ, nonNeg, shrZ, mag-shr}
 use mir.Facts.{toZ-ofZ, fits-natAbs}
 use mir.Syntax.{w16}
 use mir.Val.{Fits, SFits, toZ, ofZ}
 use borrow.Author.Tests.{le-leb, lt-leb, ne-eqb, ltb-true, le-ltb}
 use Rattle.computed.proofs.Choice.{both-false}
-use Rattle.ds3231.specs.Registers.{lowByte, registersWritten}
+use Rattle.ds3231.specs.Registers.{lowByte, alarmWritten, registersWritten}
 use Rattle.ds3231.specs.declared.Registers.{Registers}
 
 -- ---- a signed number of 16 bits
@@ -78,9 +77,8 @@ past h a b c = omega arith
 
 module _ (r b t : ℕ) (g : Registers) where
   pub written-alarm : 7 ≤ r → r < 14
-      → record { alarms = set (g .alarms) (r - 7) b; control = g .control; status = g .status; «conversion_end» = g .«conversion_end»; aging = g .aging; «temperature_quarters» = g .«temperature_quarters»; «int_sqw_reported» = g .«int_sqw_reported» }
-      ≡ registersWritten r b t g
-  written-alarm p q = rw (le-leb 7 r p, le-leb r 13 (omega arith), ne-eqb r 14 (omega arith), ne-eqb r 15 (omega arith), ne-eqb r 16 (omega arith))
+      → alarmWritten (r - 7) b g ≡ registersWritten r b t g
+  written-alarm p q = rw (le-leb 7 r p, le-leb r 13 (omega arith))
 
   pub written-below : r < 7 → g ≡ registersWritten r b t g
   written-below h = rw (lt-leb 7 r h, ne-eqb r 14 (omega arith), ne-eqb r 15 (omega arith), ne-eqb r 16 (omega arith))

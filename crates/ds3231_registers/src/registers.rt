@@ -2,7 +2,7 @@
 ghost use mathlib.Core.Path.{_≡_};
 ghost use Prim.Native.Nat.{_+_, _-_, min};
 ghost use Rattle.computed.specs.Choice.{if_then_else_};
-ghost use Rattle.ds3231.specs.Registers.{converting, lowByte, temperatureHigh, temperatureLow, otherByte, enablesOutput, startsConversion, byteAt, registersWritten};
+ghost use Rattle.ds3231.specs.Registers.{converting, lowByte, temperatureHigh, temperatureLow, otherByte, enablesOutput, startsConversion, byteAt, controlWritten, registersWritten};
 use ds3231::Registers;
 
 // The register map.
@@ -164,7 +164,7 @@ pub fn write_register(registers: Registers, register: u8, byte: u8, at: u64) -> 
 
 // A byte written to control.
 fn write_control(registers: Registers, byte: u8, at: u64) -> Registers
-    ensures { λ r. ⌜ r ≡ registersWritten 0x0E byte at registers ⌝ }
+    ensures { λ r. ⌜ r ≡ controlWritten byte at registers ⌝ }
 {
     let mut registers = registers;
     let end = conversion_end(registers, byte, at);
@@ -176,7 +176,7 @@ fn write_control(registers: Registers, byte: u8, at: u64) -> Registers
 
 // The end of the last conversion after a byte written to control.
 fn conversion_end(registers: Registers, byte: u8, at: u64) -> u64
-    ensures { λ r. ⌜ r ≡ registersWritten 0x0E byte at registers .«conversion_end» ⌝ }
+    ensures { λ r. ⌜ r ≡ controlWritten byte at registers .«conversion_end» ⌝ }
 {
     if starts_conversion(registers, byte, at) {
         end_of_conversion(at)

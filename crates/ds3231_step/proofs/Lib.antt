@@ -1,2 +1,3 @@
 pub mod EventLaws
 pub mod Lossless
+pub mod SoundLaws

@@ -1,4 +1,4 @@
--- What an event by value promises: the chip, the reply and the reports of a step.
+-- Need not be believed: what an event by value promises. It is an equation with `step` of ds3231/specs/Calls.antt, part by part; `called` in ds3231_bus and the run in script make of it what the calls promise (`keeps` of ds3231_bus/proofs/OutcomeLaws.antt, `turn-kept` of script/proofs/Turns.antt).
 -- Assumes nothing.
 use mathlib.Core.List.{List, [], _∷_}
 use mathlib.Core.Path.{_≡_}

@@ -1,6 +1,6 @@
 // The four events, each on the whole chip, as the Rust has them.
 ghost use mathlib.Core.Path.{_≡_};
-ghost use Rattle.ds3231.specs.Timing.{addressed as addressedBy};
+ghost use Rattle.ds3231.specs.Timing.{phaseFor};
 ghost use Rattle.ds3231.specs.Calls.{repliedOnly, started, written, hasRead, stopped, step as stepBy};
 ghost use Rattle.ds3231.specs.declared.Phase.the-variants.{Pointer, Writing};
 ghost use Rattle.diagnostics.specs.Reports.{countedAll};
@@ -71,7 +71,7 @@ fn start(chip: Ds3231, address: u8, read: bool, at: u64) -> Stepped
 
 // The phase after a START: only 0x68 is addressed.
 fn addressed(address: u8, read: bool) -> Phase
-    ensures { λ r. ⌜ r ≡ addressedBy address read ⌝ }
+    ensures { λ r. ⌜ r ≡ phaseFor address read ⌝ }
 {
     if address != ADDRESS {
         return Phase::Released;

@@ -1,6 +1,7 @@
 -- An answer as document 01 numbers it.
 -- Assumes nothing.
 use Prim.Native.Nat.{ℕ}
+use mathlib.Core.Bool.{Bool, true, false}
 use mathlib.Core.List.{List}
 use lib.IntN.{ℤ}
 
@@ -8,6 +9,10 @@ use lib.IntN.{ℤ}
 pub data Numbered (A : Type 0) : Type 0 where
   accepted : A → Numbered A
   refused : ℕ → List ℤ → Numbered A
+
+abbrev pub isAccepted : {A : Type 0} → Numbered A → Bool
+isAccepted (accepted a) = true
+isAccepted (refused number values) = false
 
 -- the answer of a call after a check: the check's refusal if it refuses, else the answer
 abbrev pub andThen : {A : Type 0} → Numbered (Unit {0}) → Numbered A → Numbered A

@@ -5,7 +5,8 @@ use mathlib.Core.Path.{_≡_, sym, ap, subst, _∙_}
 use Prim.Native.Nat.{ℕ, _+_, _*_, _/_, _%_, _≤_, _<_}
 use native.Mathlib.Omega.{arith}
 use Rattle.refusals.specs.Numbered.{accepted, refused}
-use Rattle.gregorian.specs.Calendar.{monthLength, dayNumber, dateOfDay}
+use Rattle.gregorian.specs.Calendar.{monthLength, dateOfDay}
+use Rattle.gregorian.specs.DayNumbers.{dayNumber}
 use Rattle.gregorian.specs.Times.{Time, Valid, checkedSeconds, secondsTo, timeAfter, weekdayOn}
 use Rattle.gregorian.specs.declared.Date.{Date}
 use Rattle.gregorian.proofs.Months as Months

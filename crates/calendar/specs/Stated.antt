@@ -1,4 +1,5 @@
 -- What the crates above may name of the calendar, and cannot open.
-pub use Rattle.gregorian.specs.Calendar.{leap, monthLength, dayNumber}
+pub use Rattle.gregorian.specs.Calendar.{leap, monthLength}
+pub use Rattle.gregorian.specs.DayNumbers.{dayNumber}
 pub use Rattle.gregorian.specs.Times.{checkedSeconds}
 pub use Rattle.calendar.specs.Dates.{dateTime, withDay, InRange, checked, secondsOf, timeOf, weekdayOf, nearest}

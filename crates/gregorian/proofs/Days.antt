@@ -7,7 +7,8 @@ use native.Mathlib.Omega.{arith}
 use native.Mathlib.Decide.{le-ind}
 use lib.Dec.{lit≤}
 use Rattle.computed.proofs.Choice.{by-lt, le-or-lt}
-use Rattle.gregorian.specs.Calendar.{divides, leap, months, sum, monthLength, yearLength, daysBeforeMonth, daysOfYears, dayNumber, nextDay, dateOfDay}
+use Rattle.gregorian.specs.Calendar.{divides, leap, months, monthLength, nextDay, dateOfDay}
+use Rattle.gregorian.specs.DayNumbers.{sum, yearLength, daysBeforeMonth, daysOfYears, dayNumber}
 use Rattle.gregorian.specs.Times.{ValidDate}
 use Rattle.gregorian.specs.declared.Date.{Date}
 use Rattle.gregorian.proofs.Months.{month-step, month-bounds, whole-year}

@@ -6,7 +6,7 @@ use native.Mathlib.Omega.{arith}
 use borrow.Author.Tests.{lt-ltb, le-ltb}
 use mathlib.Core.List.{[]}
 use Rattle.refusals.specs.Numbered.{accepted, refused}
-use Rattle.gregorian.specs.Calendar.{dayNumber}
+use Rattle.gregorian.specs.DayNumbers.{dayNumber}
 use Rattle.gregorian.specs.Times.{Time, Valid, checkedSeconds, secondsTo, timeAfter}
 use Rattle.gregorian.proofs.Days.{number-dateOfDay, number-below, dateOfDay-valid}
 

@@ -4,7 +4,7 @@ use Prim.Native.Nat.{ℕ, zero, suc, _+_, _-_, _%_}
 use mathlib.Core.Bool.{Bool, not, _&&_, _||_}
 use mathlib.Core.List.{List, [], _∷_}
 use lib.Dec.{ltb, eqb}
-use lib.ListN.{getD, take}
+use lib.ListN.{getD}
 use Rattle.computed.specs.Choice.{if_then_else_}
 use Rattle.gregorian.specs.declared.Date.{Date}
 
@@ -23,28 +23,6 @@ months isLeap = 31 ∷ (if isLeap then 29 else 28) ∷ 31 ∷ 30 ∷ 31 ∷ 30 �
 -- the length of month m, 1 to 12, of year y. A month 0 counts as January, one above 12 as a month of 31 days.
 unfoldable pub monthLength : ℕ → ℕ → ℕ
 monthLength y m = getD (months (leap y)) (m - 1) 31
-
--- the sum of a list
-unfoldable pub sum : List ℕ → ℕ
-sum [] = 0
-sum (n ∷ ns) = n + sum ns
-
--- the days of year y
-unfoldable pub yearLength : ℕ → ℕ
-yearLength y = sum (months (leap y))
-
--- the days of year y before its month m
-unfoldable pub daysBeforeMonth : ℕ → ℕ → ℕ
-daysBeforeMonth y m = sum (take (m - 1) (months (leap y)))
-
--- the days of the first k years from 2000 on
-unfoldable pub daysOfYears : ℕ → ℕ
-daysOfYears zero = 0
-daysOfYears (suc k) = daysOfYears k + yearLength (2000 + k)
-
--- the days from 2000-01-01 to a date: those of the years, the months and the days before it
-unfoldable pub dayNumber : ℕ → ℕ → ℕ → ℕ
-dayNumber y m d = daysOfYears (y - 2000) + daysBeforeMonth y m + (d - 1)
 
 -- the day after a date
 unfoldable pub nextDay : Date → Date

@@ -1,2 +1,3 @@
 pub mod Calendar
+pub mod DayNumbers
 pub mod Times

@@ -7,7 +7,8 @@ use lib.Dec.{ltb, leb}
 use lib.IntN.{pos}
 use Rattle.computed.specs.Choice.{if_then_else_}
 use Rattle.refusals.specs.Numbered.{Numbered, accepted, refused}
-use Rattle.gregorian.specs.Calendar.{monthLength, dayNumber, dateOfDay, weekdayOfDay}
+use Rattle.gregorian.specs.Calendar.{monthLength, dateOfDay, weekdayOfDay}
+use Rattle.gregorian.specs.DayNumbers.{dayNumber}
 
 -- a date and a time of day, whose fields may be any numbers
 pub record Time : Type 0 where
@@ -77,7 +78,3 @@ nearestTime t =
     let y = nearestIn 2000 2199 (t .year) in
     let m = nearestIn 1 12 (t .month) in
     record { year = y; month = m; day = nearestIn 1 (monthLength y m) (t .day); hour = nearestIn 0 23 (t .hour); minute = nearestIn 0 59 (t .minute); second = nearestIn 0 59 (t .second) }
-
--- a time with another day
-abbrev pub withDay : ℕ → Time → Time
-withDay d t = record { year = t .year; month = t .month; day = d; hour = t .hour; minute = t .minute; second = t .second }

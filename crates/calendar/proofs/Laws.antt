@@ -5,19 +5,16 @@ use mathlib.Core.Path.{_≡_, sym, ap, subst, _∙_}
 use Prim.Native.Nat.{ℕ, _+_, _*_, _/_, _%_, _≤_, _<_}
 use native.Mathlib.Omega.{arith}
 use Rattle.refusals.specs.Numbered.{accepted, refused}
-use Rattle.gregorian.specs.Calendar.{monthLength, dateOfDay}
+use Rattle.gregorian.specs.Calendar.{monthLength}
 use Rattle.gregorian.specs.DayNumbers.{dayNumber}
-use Rattle.gregorian.specs.Times.{Time, Valid, checkedSeconds, secondsTo, timeAfter, weekdayOn}
-use Rattle.gregorian.specs.declared.Date.{Date}
+use Rattle.gregorian.specs.Times.{Time, checkedSeconds, secondsTo, weekdayOn}
 use Rattle.gregorian.proofs.Months as Months
-use Rattle.gregorian.proofs.Days.{numberOf}
 use Rattle.gregorian.proofs.Weekdays.{weekday-of-day}
 use Rattle.gregorian.proofs.Checked.{valid-accepted, accepted-valid}
 use Rattle.gregorian.proofs.Seconds as Seconds
 use Rattle.gregorian.proofs.Nearest as Nearest
 use Rattle.calendar.specs.declared.DateTime.{DateTime}
 use Rattle.calendar.specs.Dates.{asTime, asDateTime, withDay, InRange, checked, checked-is, secondsOf, secondsOf-is, timeOf, timeOf-is, weekdayOf, weekdayOf-is, nearest, nearest-is}
-use Rattle.calendar.proofs.Civil.{dateOfDay-number}
 
 -- the check of a time accepts the times in range and no others
 pub in-range-accepted : (t : DateTime) → InRange t → checked t ≡ accepted tt
@@ -38,20 +35,8 @@ pub seconds-of-time : (s : ℕ) → secondsOf (timeOf s) ≡ s
 seconds-of-time s = secondsOf-is (timeOf s) ∙ ap (λ (t : DateTime). secondsTo (asTime t)) (timeOf-is s) ∙ Seconds.seconds-of-time s
 
 -- time to seconds to time
-same-time : (d e : Date) (h m s h′ m′ s′ : ℕ) → d ≡ e → h ≡ h′ → m ≡ m′ → s ≡ s′ →
-    _≡_ {A = Time} (record { year = d .year; month = d .month; day = d .day; hour = h; minute = m; second = s })
-    (record { year = e .year; month = e .month; day = e .day; hour = h′; minute = m′; second = s′ })
-same-time d e h m s h′ m′ s′ p q r t = cc
-
-time-after : (t : Time) → Valid t → timeAfter (secondsTo t) ≡ t
-unfolding secondsTo timeAfter
-time-after t v =
-    let d : Date = record { year = t .year; month = t .month; day = t .day } in
-    let p = Seconds.parts (numberOf d) (t .hour) (t .minute) (t .second) (v .hour-to) (v .minute-to) (v .second-to) in
-    same-time _ d _ _ _ (t .hour) (t .minute) (t .second) (ap dateOfDay (p .0) ∙ dateOfDay-number d (v .date)) (p .1) (p .2) (p .3)
-
 pub time-of-seconds : (t : DateTime) → InRange t → timeOf (secondsOf t) ≡ t
-time-of-seconds t v = ap timeOf (secondsOf-is t) ∙ timeOf-is _ ∙ ap asDateTime (time-after (asTime t) v)
+time-of-seconds t v = ap timeOf (secondsOf-is t) ∙ timeOf-is _ ∙ ap asDateTime (Seconds.time-of-seconds (asTime t) v)
 
 -- the time of a second in range is in range, and so are the seconds of such a time
 pub time-in-range : (s : ℕ) → s < 6311433600 → InRange (timeOf s)

@@ -2,4 +2,5 @@
 pub use Rattle.gregorian.specs.Calendar.{leap, monthLength}
 pub use Rattle.gregorian.specs.DayNumbers.{dayNumber}
 pub use Rattle.gregorian.specs.Times.{checkedSeconds}
-pub use Rattle.calendar.specs.Dates.{dateTime, withDay, InRange, checked, secondsOf, timeOf, weekdayOf, nearest}
+pub use Rattle.calendar.specs.AsTime.{dateTime, withDay, InRange}
+pub use Rattle.calendar.specs.Dates.{checked, secondsOf, timeOf, weekdayOf, nearest}

@@ -3,10 +3,10 @@
 use Prim.Native.Nat.{ℕ, _+_, _*_, _/_, _%_, _^_}
 use mathlib.Core.Bool.{Bool, true, false, not, _&&_}
 use mathlib.Core.List.{List, [], _∷_}
-use lib.Bits.{bitOr}
 use lib.Dec.{leb, eqb}
 use Rattle.computed.specs.Choice.{if_then_else_}
 use Rattle.calendar.specs.declared.DateTime.{DateTime}
+use Rattle.fields.specs.Bytes.{fieldByte}
 
 -- what a byte says at a register: undefined, or the register's field and a flag, which is the 12-hour mode of an hour, the century bit of a month, and else false
 pub data Meaning : Type 0 where
@@ -17,10 +17,7 @@ pub data Meaning : Type 0 where
 unfoldable pub bit : ℕ → ℕ → Bool
 bit k b = eqb (b / 2 ^ k % 2) 1
 
--- binary-coded decimal: the two digits of a number (of one above 159, those that eight bits keep), the number of two digits, and that neither digit exceeds 9
-unfoldable pub toDigits : ℕ → ℕ
-toDigits n = 16 * (n / 10 % 16) + n % 10
-
+-- binary-coded decimal: the number of two digits, and that neither digit exceeds 9
 unfoldable pub fromDigits : ℕ → ℕ
 fromDigits b = 10 * (b / 16) + b % 16
 
@@ -63,21 +60,6 @@ meaning r b =
     if eqb r 2 then (if bit 6 b then dialMeaning b else plainMeaning 2 b)
     else if eqb r 5 then monthMeaning b
     else plainMeaning r b
-
--- the byte of an hour: in 24-hour mode its digits; in 12-hour mode bit 6, bit 5 from 12 on, and the digits on the dial
-unfoldable pub hourByte : ℕ → Bool → ℕ
-hourByte h twelve =
-    if twelve
-    then bitOr (bitOr 0x40 (if leb 12 h then 0x20 else 0)) (toDigits (if eqb (h % 12) 0 then 12 else h % 12))
-    else toDigits h
-
--- the byte of a register's field
-unfoldable pub fieldByte : ℕ → ℕ → Bool → ℕ
-fieldByte r n flag =
-    if eqb r 2 then hourByte n flag
-    else if eqb r 3 then n
-    else if eqb r 5 then bitOr (toDigits n) (if flag then 0x80 else 0)
-    else toDigits n
 
 -- the seven bytes at 0x00 to 0x06 of a time, its weekday and an hour mode
 unfoldable pub timeBytes : DateTime → ℕ → Bool → List ℕ

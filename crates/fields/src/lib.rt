@@ -5,7 +5,8 @@ ghost use mathlib.Core.Path.{_≡_};
 ghost use Prim.Native.Nat.{_%_};
 ghost use lib.Dec.{leb, eqb};
 ghost use Rattle.computed.specs.Choice.{if_then_else_};
-ghost use Rattle.fields.specs.Table.{bit, toDigits, meaning, hourByte, timeBytes};
+ghost use Rattle.fields.specs.Bytes.{toDigits, hourByte};
+ghost use Rattle.fields.specs.Table.{bit, meaning, timeBytes};
 ghost use Rattle.fields.specs.Answers.{decodedMeaning, ofDigits, ofDigitsWithin};
 use calendar::DateTime;
 

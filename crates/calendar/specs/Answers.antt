@@ -1,4 +1,4 @@
--- The answers of the public calls as document 01 numbers them, each by the cases of its enum.
+-- 'Where to use each form': the number and the values of each public call's answer, by the cases of its enum.
 -- Assumes nothing.
 use Prim.Native.Nat.{ℕ}
 use mathlib.Core.List.{[], _∷_}

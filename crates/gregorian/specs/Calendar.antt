@@ -12,7 +12,7 @@ use Rattle.gregorian.specs.declared.Date.{Date}
 unfoldable pub divides : ℕ → ℕ → Bool
 divides k n = eqb (n % k) 0
 
--- a year is leap if it is divisible by 4, and not by 100 unless by 400
+-- 'Dates, seconds, weekdays': a year is leap if it is divisible by 4, and not by 100 unless by 400
 unfoldable pub leap : ℕ → Bool
 leap y = divides 4 y && (not (divides 100 y) || divides 400 y)
 
@@ -36,11 +36,11 @@ unfoldable pub dateOfDay : ℕ → Date
 dateOfDay zero = record { year = 2000; month = 1; day = 1 }
 dateOfDay (suc n) = nextDay (dateOfDay n)
 
--- the day of the week after w, Monday 1 to Sunday 7
+-- 'Dates, seconds, weekdays': the day of the week after w, Monday 1 to Sunday 7
 unfoldable pub nextWeekday : ℕ → ℕ
 nextWeekday w = if ltb w 7 then w + 1 else 1
 
--- the day of the week n days after 2000-01-01, a Saturday
+-- 'Dates, seconds, weekdays': the day of the week n days after 2000-01-01, which is 6
 unfoldable pub weekdayOfDay : ℕ → ℕ
 weekdayOfDay zero = 6
 weekdayOfDay (suc n) = nextWeekday (weekdayOfDay n)

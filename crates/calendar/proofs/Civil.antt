@@ -5,7 +5,7 @@ use mathlib.Core.Path.{_≡_, sym, ap, _∙_}
 use Prim.Native.Nat.{ℕ, _+_, _-_, _*_, _/_, _%_, _≤_, _<_}
 use native.Mathlib.Omega.{arith}
 use Rattle.gregorian.specs.Calendar.{leap, dateOfDay}
-use Rattle.gregorian.specs.Times.{ValidDate}
+use Rattle.gregorian.specs.Ranges.{ValidDate}
 use Rattle.gregorian.specs.declared.Date.{Date}
 use Rattle.computed.proofs.Choice.{le-or-lt}
 use Rattle.gregorian.proofs.Months.{bit, month-bounds}

@@ -14,8 +14,8 @@ use Rattle.gregorian.proofs.Checked.{valid-accepted, accepted-valid}
 use Rattle.gregorian.proofs.Seconds as Seconds
 use Rattle.gregorian.proofs.Nearest as Nearest
 use Rattle.calendar.specs.declared.DateTime.{DateTime}
-use Rattle.calendar.specs.AsTime.{asTime, asDateTime, withDay, InRange}
-use Rattle.calendar.specs.Dates.{checked, secondsOf, timeOf, weekdayOf, nearest, equations}
+use Rattle.calendar.specs.AsTime.{asTime, asDateTime, withDay}
+use Rattle.calendar.specs.Dates.{InRange, checked, secondsOf, timeOf, weekdayOf, nearest, equations}
 
 -- the check of a time accepts the times in range and no others
 pub in-range-accepted : (t : DateTime) → InRange t → checked t ≡ accepted tt

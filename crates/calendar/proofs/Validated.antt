@@ -10,8 +10,7 @@ use Rattle.calendar.specs.declared.DateTimeError.{DateTimeError}
 use Rattle.calendar.specs.declared.DateTimeError.the-variants.{Year, Month, Day, Hour, Minute, Second}
 use Rattle.calendar.specs.declared.Validity.{Validity}
 use Rattle.calendar.specs.declared.Validity.the-variants.{Valid, Invalid}
-use Rattle.calendar.specs.AsTime.{InRange}
-use Rattle.calendar.specs.Dates.{checked}
+use Rattle.calendar.specs.Dates.{InRange, checked}
 use Rattle.calendar.specs.Answers.{refusedBy, validityAnswer}
 use Rattle.calendar.proofs.Laws.{accepted-in-range}
 

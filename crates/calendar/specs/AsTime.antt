@@ -1,7 +1,7 @@
 -- A `DateTime` of the source and the calendar's time, field by field.
 -- Assumes nothing.
 use Prim.Native.Nat.{ℕ}
-use Rattle.gregorian.specs.Times.{Time, Valid}
+use Rattle.gregorian.specs.Times.{Time}
 use Rattle.calendar.specs.declared.DateTime.{DateTime}
 
 -- a `DateTime` as the calendar's time, and back
@@ -18,7 +18,3 @@ dateTime year month day hour minute second = record { year = year; month = month
 -- a time with another day
 abbrev pub withDay : ℕ → DateTime → DateTime
 withDay d t = record { year = t .year; month = t .month; day = d; hour = t .hour; minute = t .minute; second = t .second }
-
--- every field is in its range
-abbrev pub InRange : DateTime → Type 0
-InRange t = Valid (asTime t)

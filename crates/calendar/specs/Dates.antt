@@ -1,11 +1,16 @@
--- Need not be believed: `equations` (specs/Dates.antt) equates each definition with one of gregorian/specs/Times.antt at a `DateTime`. They are shut: no crate above can open them.
+-- Need not be believed: `equations` (specs/Dates.antt) equates each definition with one of gregorian/specs/Times.antt at a `DateTime`, and `in-range-accepted` and `accepted-in-range` (proofs/Laws.antt) `InRange` with `checked`. No crate above can open the other five.
 -- Assumes nothing.
 use Prim.Native.Nat.{ℕ}
 use mathlib.Core.Path.{_≡_, refl}
 use Rattle.refusals.specs.Numbered.{Numbered}
 use Rattle.gregorian.specs.Times.{checkedTime, secondsTo, timeAfter, weekdayOn, nearestTime}
+use Rattle.gregorian.specs.Ranges.{Valid}
 use Rattle.calendar.specs.declared.DateTime.{DateTime}
 use Rattle.calendar.specs.AsTime.{asTime, asDateTime}
+
+-- every field is in its range
+abbrev pub InRange : DateTime → Type 0
+InRange t = Valid (asTime t)
 
 -- the check of a time: refusal 1 to 6 for the first field out of its range
 pub checked : DateTime → Numbered (Unit {0})

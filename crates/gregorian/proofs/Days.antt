@@ -9,7 +9,7 @@ use lib.Dec.{lit≤}
 use Rattle.computed.proofs.Choice.{by-lt, le-or-lt}
 use Rattle.gregorian.specs.Calendar.{divides, leap, months, monthLength, nextDay, dateOfDay}
 use Rattle.gregorian.specs.DayNumbers.{sum, yearLength, daysBeforeMonth, daysOfYears, dayNumber}
-use Rattle.gregorian.specs.Times.{ValidDate}
+use Rattle.gregorian.specs.Ranges.{ValidDate}
 use Rattle.gregorian.specs.declared.Date.{Date}
 use Rattle.gregorian.proofs.Months.{month-step, month-bounds, whole-year}
 

@@ -8,7 +8,8 @@ use mathlib.Core.List.{[]}
 use Rattle.refusals.specs.Numbered.{accepted, refused}
 use Rattle.gregorian.specs.Calendar.{dateOfDay}
 use Rattle.gregorian.specs.DayNumbers.{dayNumber}
-use Rattle.gregorian.specs.Times.{Time, Valid, checkedSeconds, secondsTo, timeAfter}
+use Rattle.gregorian.specs.Times.{Time, checkedSeconds, secondsTo, timeAfter}
+use Rattle.gregorian.specs.Ranges.{Valid}
 use Rattle.gregorian.specs.declared.Date.{Date}
 use Rattle.gregorian.proofs.Days.{numberOf, number-dateOfDay, dateOfDay-number, number-below, valid-on, dateOfDay-valid}
 

@@ -1,6 +1,6 @@
 -- A date with a time of day, from 2000-01-01T00:00:00 to 2199-12-31T23:59:59: which are valid, their seconds since 2000, and the nearest valid time.
 -- Assumes nothing.
-use Prim.Native.Nat.{ℕ, _+_, _*_, _/_, _%_, _≤_}
+use Prim.Native.Nat.{ℕ, _+_, _*_, _/_, _%_}
 use mathlib.Core.Bool.{Bool, not, _&&_}
 use mathlib.Core.List.{[], _∷_}
 use lib.Dec.{ltb, leb}
@@ -19,27 +19,11 @@ pub record Time : Type 0 where
   pub minute : ℕ
   pub second : ℕ
 
--- 'Dates, seconds, weekdays': a date of the years 2000 to 2199
-pub record ValidDate (y m d : ℕ) : Type 0 where
-  pub year-from : 2000 ≤ y
-  pub year-to : y ≤ 2199
-  pub month-from : 1 ≤ m
-  pub month-to : m ≤ 12
-  pub day-from : 1 ≤ d
-  pub day-to : d ≤ monthLength y m
-
--- 'Dates, seconds, weekdays': a time whose every field is in its range; there is no second 60
-pub record Valid (t : Time) : Type 0 where
-  pub date : ValidDate (t .year) (t .month) (t .day)
-  pub hour-to : t .hour ≤ 23
-  pub minute-to : t .minute ≤ 59
-  pub second-to : t .second ≤ 59
-
 -- n is from a to b
 unfoldable pub within : ℕ → ℕ → ℕ → Bool
 within a b n = leb a n && leb n b
 
--- 'Dates, seconds, weekdays': the check of year, month, day, hour, minute, second gives the first fault; 'The table of refusals': 1 to 6, with the values
+-- 'Dates, seconds, weekdays': the check of year, month, day, hour, minute, second gives the first fault, and there is no second 60; 'The table of refusals': 1 to 6, with the values
 unfoldable pub checkedTime : Time → Numbered (Unit {0})
 checkedTime t =
     if not (within 2000 2199 (t .year)) then refused 1 (pos (t .year) ∷ [])

@@ -1,15 +1,15 @@
 -- What the code of `civil_from_days` finds at day n is the date n days after 2000-01-01.
 -- Assumes nothing.
 use mathlib.Core.Logic.{⊎-elim}
-use mathlib.Core.Path.{_≡_, refl, sym, ap, _∙_}
+use mathlib.Core.Path.{_≡_, sym, ap, _∙_}
 use Prim.Native.Nat.{ℕ, _+_, _-_, _*_, _/_, _%_, _≤_, _<_}
 use native.Mathlib.Omega.{arith}
 use Rattle.gregorian.specs.Calendar.{leap, dateOfDay}
-use Rattle.gregorian.specs.Times.{ValidDate}
+use Rattle.gregorian.specs.Ranges.{ValidDate}
 use Rattle.gregorian.specs.declared.Date.{Date}
 use Rattle.computed.proofs.Choice.{le-or-lt}
 use Rattle.gregorian.proofs.Months.{bit, month-bounds}
-use Rattle.gregorian.proofs.Days.{numberOf, number-dateOfDay, number-below, dateOfDay-valid}
+use Rattle.gregorian.proofs.Days.{numberOf, number-dateOfDay, dateOfDay-valid}
 use Rattle.calendar.specs.Formula.{marchMonth}
 use Rattle.calendar.proofs.Formula.{startInEra, yearOfEra, dayOfYear, monthOf, dayOf}
 use Rattle.calendar.proofs.Months.{early-month, late-month}
@@ -82,19 +82,9 @@ of-late x t h b e =
     }
 
 -- of a date in the range
-pub civil-of : (x : ℕ) (t : Date) → ValidDate (t .year) (t .month) (t .day) → x ≡ numberOf t + 730425 → Civil x t
+civil-of : (x : ℕ) (t : Date) → ValidDate (t .year) (t .month) (t .day) → x ≡ numberOf t + 730425 → Civil x t
 civil-of x t h e = ⊎-elim (λ p. of-early x t h p e) (λ p. of-late x t h p e) (le-or-lt (t .month) 2)
 
 -- of a day in the range
 pub civil : (n : ℕ) → n < 73049 → Civil (n + 730425) (dateOfDay n)
 civil n h = civil-of (n + 730425) (dateOfDay n) (dateOfDay-valid n h) (ap (λ (z : ℕ). z + 730425) (sym (number-dateOfDay n)))
-
--- two dates of one day are the same
-found-date : (x : ℕ) (t u : Date) → Civil x t → Civil x u → t ≡ u
-found-date x t u p q =
-    ⊎-elim (λ h. sym (p .early h) ∙ q .early h) (λ h. sym (p .late h) ∙ q .late h) (le-or-lt 10 (monthOf x))
-
-pub dateOfDay-number : (t : Date) → ValidDate (t .year) (t .month) (t .day) → dateOfDay (numberOf t) ≡ t
-dateOfDay-number t h =
-    found-date (numberOf t + 730425) (dateOfDay (numberOf t)) t
-    (civil (numberOf t) (number-below (t .year) (t .month) (t .day) h)) (civil-of (numberOf t + 730425) t h refl)

@@ -6,7 +6,8 @@ use lib.IntN.{pos}
 use Rattle.refusals.specs.Numbered.{accepted, refused, andThen}
 use Rattle.gregorian.specs.Times.{checkedSeconds}
 use Rattle.gregorian.proofs.Examples as Rows
-use Rattle.calendar.specs.Dates.{asDateTime, dateTime, checked, checked-is, secondsOf, secondsOf-is, timeOf, timeOf-is, weekdayOf, weekdayOf-is}
+use Rattle.calendar.specs.AsTime.{asDateTime, dateTime}
+use Rattle.calendar.specs.Dates.{checked, secondsOf, timeOf, weekdayOf, equations}
 
 -- what the public calls answer to a row
 pub record Right (r : Rows.Row) : Type 0 where
@@ -17,9 +18,9 @@ pub record Right (r : Rows.Row) : Type 0 where
 right : (r : Rows.Row) → Rows.Right r → Right r
 right r h =
     record {
-      time-is = rw (h .seconds-are-accepted) (ap accepted (timeOf-is _ ∙ ap asDateTime (h .time-is)));
-      seconds-are = rw (checked-is, h .time-is-accepted) (ap accepted (secondsOf-is _ ∙ h .seconds-are));
-      weekday-is = rw (checked-is, h .time-is-accepted) (ap accepted (weekdayOf-is _ ∙ h .weekday-is));
+      time-is = rw (h .seconds-are-accepted) (ap accepted (equations .timeOf-is _ ∙ ap asDateTime (h .time-is)));
+      seconds-are = rw (equations .checked-is, h .time-is-accepted) (ap accepted (equations .secondsOf-is _ ∙ h .seconds-are));
+      weekday-is = rw (equations .checked-is, h .time-is-accepted) (ap accepted (equations .weekdayOf-is _ ∙ h .weekday-is));
     }
 
 each : (rs : List Rows.Row) → Rows.Each Rows.Right rs → Rows.Each Right rs
@@ -33,4 +34,4 @@ pub record Examples : Type 0 where
   pub no-leap-day : checked (dateTime 2100 2 29 0 0 0) ≡ refused 3 (pos 2100 ∷ pos 2 ∷ pos 29 ∷ [])
 
 pub examples : Examples
-examples = record { rows = each Rows.table Rows.examples; too-late = rw Rows.too-late; no-leap-day = checked-is _ ∙ Rows.no-leap-day }
+examples = record { rows = each Rows.table Rows.examples; too-late = rw Rows.too-late; no-leap-day = equations .checked-is _ ∙ Rows.no-leap-day }

@@ -4,8 +4,9 @@ use mathlib.Core.Logic.{_⊎_, inl, inr}
 use mathlib.Core.Path.{_≡_, ap, _∙_}
 use Prim.Native.Nat.{ℕ, _+_, _-_, _*_, _/_, _%_, _≤_, _<_}
 use native.Mathlib.Omega.{arith}
-use Rattle.gregorian.specs.Calendar.{leap, daysOfYears, dayNumber}
-use Rattle.gregorian.specs.Times.{ValidDate}
+use Rattle.gregorian.specs.Calendar.{leap}
+use Rattle.gregorian.specs.DayNumbers.{daysOfYears, dayNumber}
+use Rattle.gregorian.specs.Ranges.{ValidDate}
 use Rattle.gregorian.proofs.Months.{bit}
 use Rattle.calendar.specs.Formula.{marchMonth}
 use Rattle.calendar.proofs.Formula.{start, startInEra, yearOfEra, dayOfYear, monthOf, dayOf}

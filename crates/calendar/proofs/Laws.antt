@@ -3,26 +3,26 @@
 use mathlib.Core.List.{[]}
 use mathlib.Core.Path.{_≡_, sym, ap, subst, _∙_}
 use Prim.Native.Nat.{ℕ, _+_, _*_, _/_, _%_, _≤_, _<_}
+use native.Mathlib.Omega.{arith}
 use Rattle.refusals.specs.Numbered.{accepted, refused}
-use Rattle.gregorian.specs.Calendar.{monthLength, dayNumber, dateOfDay}
-use Rattle.gregorian.specs.Times.{Time, Valid, checkedSeconds, secondsTo, timeAfter, weekdayOn}
-use Rattle.gregorian.specs.declared.Date.{Date}
+use Rattle.gregorian.specs.Calendar.{monthLength}
+use Rattle.gregorian.specs.DayNumbers.{dayNumber}
+use Rattle.gregorian.specs.Times.{Time, checkedSeconds, secondsTo, weekdayOn}
 use Rattle.gregorian.proofs.Months as Months
-use Rattle.gregorian.proofs.Days.{numberOf}
 use Rattle.gregorian.proofs.Weekdays.{weekday-of-day}
 use Rattle.gregorian.proofs.Checked.{valid-accepted, accepted-valid}
 use Rattle.gregorian.proofs.Seconds as Seconds
 use Rattle.gregorian.proofs.Nearest as Nearest
 use Rattle.calendar.specs.declared.DateTime.{DateTime}
-use Rattle.calendar.specs.Dates.{asTime, asDateTime, withDay, InRange, checked, checked-is, secondsOf, secondsOf-is, timeOf, timeOf-is, weekdayOf, weekdayOf-is, nearest, nearest-is}
-use Rattle.calendar.proofs.Civil.{dateOfDay-number}
+use Rattle.calendar.specs.AsTime.{asTime, asDateTime, withDay}
+use Rattle.calendar.specs.Dates.{InRange, checked, secondsOf, timeOf, weekdayOf, nearest, equations}
 
 -- the check of a time accepts the times in range and no others
 pub in-range-accepted : (t : DateTime) → InRange t → checked t ≡ accepted tt
-in-range-accepted t v = checked-is t ∙ valid-accepted (asTime t) v
+in-range-accepted t v = equations .checked-is t ∙ valid-accepted (asTime t) v
 
 pub accepted-in-range : (t : DateTime) → checked t ≡ accepted tt → InRange t
-accepted-in-range t e = accepted-valid (asTime t) (sym (checked-is t) ∙ e)
+accepted-in-range t e = accepted-valid (asTime t) (sym (equations .checked-is t) ∙ e)
 
 -- the check of a number of seconds accepts those below 6,311,433,600 and no others
 pub seconds-accepted : (s : ℕ) → s < 6311433600 → checkedSeconds s ≡ accepted tt
@@ -33,38 +33,26 @@ seconds-refused = Seconds.seconds-refused
 
 -- seconds to time to seconds
 pub seconds-of-time : (s : ℕ) → secondsOf (timeOf s) ≡ s
-seconds-of-time s = secondsOf-is (timeOf s) ∙ ap (λ (t : DateTime). secondsTo (asTime t)) (timeOf-is s) ∙ Seconds.seconds-of-time s
+seconds-of-time s = equations .secondsOf-is (timeOf s) ∙ ap (λ (t : DateTime). secondsTo (asTime t)) (equations .timeOf-is s) ∙ Seconds.seconds-of-time s
 
 -- time to seconds to time
-same-time : (d e : Date) (h m s h′ m′ s′ : ℕ) → d ≡ e → h ≡ h′ → m ≡ m′ → s ≡ s′ →
-    _≡_ {A = Time} (record { year = d .year; month = d .month; day = d .day; hour = h; minute = m; second = s })
-    (record { year = e .year; month = e .month; day = e .day; hour = h′; minute = m′; second = s′ })
-same-time d e h m s h′ m′ s′ p q r t = cc
-
-time-after : (t : Time) → Valid t → timeAfter (secondsTo t) ≡ t
-unfolding secondsTo timeAfter
-time-after t v =
-    let d : Date = record { year = t .year; month = t .month; day = t .day } in
-    let p = Seconds.parts (numberOf d) (t .hour) (t .minute) (t .second) (v .hour-to) (v .minute-to) (v .second-to) in
-    same-time _ d _ _ _ (t .hour) (t .minute) (t .second) (ap dateOfDay (p .0) ∙ dateOfDay-number d (v .date)) (p .1) (p .2) (p .3)
-
 pub time-of-seconds : (t : DateTime) → InRange t → timeOf (secondsOf t) ≡ t
-time-of-seconds t v = ap timeOf (secondsOf-is t) ∙ timeOf-is _ ∙ ap asDateTime (time-after (asTime t) v)
+time-of-seconds t v = ap timeOf (equations .secondsOf-is t) ∙ equations .timeOf-is _ ∙ ap asDateTime (Seconds.time-of-seconds (asTime t) v)
 
 -- the time of a second in range is in range, and so are the seconds of such a time
 pub time-in-range : (s : ℕ) → s < 6311433600 → InRange (timeOf s)
-time-in-range s h = subst InRange (sym (timeOf-is s)) (Seconds.time-valid s h)
+time-in-range s h = subst InRange (sym (equations .timeOf-is s)) (Seconds.time-valid s h)
 
 pub seconds-below : (t : DateTime) → InRange t → secondsOf t < 6311433600
-seconds-below t v = rw secondsOf-is (Seconds.seconds-below (asTime t) v)
+seconds-below t v = rw (equations .secondsOf-is) (Seconds.seconds-below (asTime t) v)
 
 -- the seconds of a time are those of its days, hours and minutes, and its own
 pub seconds-formula : (t : DateTime) → secondsOf t ≡ dayNumber (t .year) (t .month) (t .day) * 86400 + t .hour * 3600 + t .minute * 60 + t .second
-seconds-formula t = secondsOf-is t ∙ Seconds.seconds-formula (asTime t)
+seconds-formula t = equations .secondsOf-is t ∙ Seconds.seconds-formula (asTime t)
 
 -- the day number is the seconds over 86,400
 pub seconds-day : (t : DateTime) → InRange t → secondsOf t / 86400 ≡ dayNumber (t .year) (t .month) (t .day)
-seconds-day t v = rw secondsOf-is (Seconds.seconds-day (asTime t) v)
+seconds-day t v = rw (equations .secondsOf-is) (Seconds.seconds-day (asTime t) v)
 
 -- the weekday by a formula
 weekday-on : (t : Time) → weekdayOn t ≡ (dayNumber (t .year) (t .month) (t .day) + 5) % 7 + 1
@@ -72,20 +60,52 @@ unfolding weekdayOn
 weekday-on t = weekday-of-day _
 
 pub weekday-formula : (t : DateTime) → weekdayOf t ≡ (dayNumber (t .year) (t .month) (t .day) + 5) % 7 + 1
-weekday-formula t = weekdayOf-is t ∙ weekday-on (asTime t)
+weekday-formula t = equations .weekdayOf-is t ∙ weekday-on (asTime t)
 
 -- the nearest time is in range, and a time in range is its own
 pub nearest-in-range : (t : DateTime) → InRange (nearest t)
-nearest-in-range t = subst InRange (sym (nearest-is t)) (Nearest.nearest-valid (asTime t))
+nearest-in-range t = subst InRange (sym (equations .nearest-is t)) (Nearest.nearest-valid (asTime t))
 
 pub nearest-same : (t : DateTime) → InRange t → nearest t ≡ t
-nearest-same t v = nearest-is t ∙ ap asDateTime (Nearest.nearest-same (asTime t) v)
+nearest-same t v = equations .nearest-is t ∙ ap asDateTime (Nearest.nearest-same (asTime t) v)
 
 -- where all but the day is in range and the day is past the month's end, the nearest has the month's last day
 pub nearest-past : (t : DateTime) → InRange (withDay 1 t) → monthLength (t .year) (t .month) < t .day →
     nearest t ≡ withDay (monthLength (t .year) (t .month)) t
-nearest-past t v h = nearest-is t ∙ ap asDateTime (Nearest.nearest-past (asTime t) v h)
+nearest-past t v h = equations .nearest-is t ∙ ap asDateTime (Nearest.nearest-past (asTime t) v h)
 
 -- a month has 28 to 31 days
 pub month-bounds : (y m : ℕ) → (28 ≤ monthLength y m) × (monthLength y m ≤ 31)
 month-bounds = Months.month-bounds
+
+-- every field but the day is in its range
+pub record InRangeButDay (t : DateTime) : Type 0 where
+  pub year-from : 2000 ≤ t .year
+  pub year-to : t .year ≤ 2199
+  pub month-from : 1 ≤ t .month
+  pub month-to : t .month ≤ 12
+  pub hour-to : t .hour ≤ 23
+  pub minute-to : t .minute ≤ 59
+  pub second-to : t .second ≤ 59
+
+-- that is so exactly where the time with day 1 is in range, which is where the check accepts that time
+pub but-day-in-range : (t : DateTime) → InRangeButDay t → InRange (withDay 1 t)
+but-day-in-range t h =
+    let m = month-bounds (t .year) (t .month) in
+    record {
+      date = record { year-from = h .year-from; year-to = h .year-to; month-from = h .month-from; month-to = h .month-to; day-from = omega arith; day-to = omega (arith, m .0) };
+      hour-to = h .hour-to;
+      minute-to = h .minute-to;
+      second-to = h .second-to;
+    }
+
+pub in-range-but-day : (t : DateTime) → InRange (withDay 1 t) → InRangeButDay t
+in-range-but-day t v =
+    let d = v .date in
+    record { year-from = d .year-from; year-to = d .year-to; month-from = d .month-from; month-to = d .month-to; hour-to = v .hour-to; minute-to = v .minute-to; second-to = v .second-to }
+
+pub but-day-accepted : (t : DateTime) → InRangeButDay t → checked (withDay 1 t) ≡ accepted tt
+but-day-accepted t h = in-range-accepted (withDay 1 t) (but-day-in-range t h)
+
+pub accepted-but-day : (t : DateTime) → checked (withDay 1 t) ≡ accepted tt → InRangeButDay t
+accepted-but-day t e = in-range-but-day t (accepted-in-range (withDay 1 t) e)

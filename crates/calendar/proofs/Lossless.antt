@@ -2,14 +2,14 @@
 -- Assumes nothing.
 use Prim.Native.Nat.{ℕ}
 use mathlib.Core.List.{List}
-use mathlib.Core.Path.{_≡_, refl, sym, ap, _∙_}
+use mathlib.Core.Path.{_≡_, refl, ap, _∙_}
 use lib.Dec.{eqb}
 use lib.IntN.{ℤ, pos, negsuc}
 use lib.ListN.{getD}
 use Rattle.computed.specs.Choice.{if_then_else_}
 use Rattle.computed.proofs.Lossless.{lossless}
 use Rattle.refusals.specs.Numbered.{Numbered, accepted, refused}
-use Rattle.calendar.specs.Answers.{errorNumber, errorValues, validityAnswer, newAnswer, fromSecondsAnswer, secondsAnswer, weekdayAnswer}
+use Rattle.calendar.specs.Answers.{refusedBy, validityAnswer, newAnswer, fromSecondsAnswer, secondsAnswer, weekdayAnswer}
 use Rattle.calendar.specs.declared.DateTime.{DateTime}
 use Rattle.calendar.specs.declared.DateTimeError.{DateTimeError}
 use Rattle.calendar.specs.declared.DateTimeError.the-variants.{Year, Month, Day, Hour, Minute, Second}
@@ -18,6 +18,7 @@ use Rattle.calendar.specs.declared.NewResult as NewResult
 use Rattle.calendar.specs.declared.FromSecondsResult as FromSecondsResult
 use Rattle.calendar.specs.declared.SecondsResult as SecondsResult
 use Rattle.calendar.specs.declared.WeekdayResult as WeekdayResult
+use Rattle.calendar.proofs.Validated.{by-refused}
 
 abbrev pub natural : ℤ → ℕ
 natural (pos n) = n
@@ -35,7 +36,11 @@ errorOf n vs =
     else if eqb n 5 then Minute (value vs 0)
     else Second (value vs 0)
 
-error-back : (e : DateTimeError) → errorOf (errorNumber e) (errorValues e) ≡ e
+abbrev errorIn : Numbered (Unit {0}) → DateTimeError
+errorIn (accepted u) = Year 0
+errorIn (refused n vs) = errorOf n vs
+
+error-back : (e : DateTimeError) → errorIn (refusedBy e) ≡ e
 error-back (Year y) = refl
 error-back (Month m) = refl
 error-back (Day y m d) = refl
@@ -44,8 +49,12 @@ error-back (Minute m) = refl
 error-back (Second s) = refl
 
 -- of two errors: the same number and values, the same error
-pub error-lossless : (e f : DateTimeError) → errorNumber e ≡ errorNumber f → errorValues e ≡ errorValues f → e ≡ f
-error-lossless e f p q = sym (error-back e) ∙ ap (λ (n : ℕ). errorOf n (errorValues e)) p ∙ ap (errorOf (errorNumber f)) q ∙ error-back f
+pub error-lossless : (e f : DateTimeError) → refusedBy {A = Unit {0}} e ≡ refusedBy f → e ≡ f
+error-lossless = lossless refusedBy errorIn error-back
+
+-- what is read back of every refusal is read back of that of an error
+refused-back : {A B : Type 0} (back : Numbered A → B) (err : DateTimeError → B) → ((n : ℕ) (vs : List ℤ) → back (refused n vs) ≡ err (errorOf n vs)) → (e : DateTimeError) → back (refusedBy e) ≡ err e
+refused-back back err h e = by-refused (λ r s. back r ≡ err (errorIn s)) h e ∙ ap err (error-back e)
 
 abbrev validityOf : Numbered (Unit {0}) → Validity.Validity
 validityOf (accepted u) = Validity.the-variants.Valid
@@ -53,7 +62,7 @@ validityOf (refused n vs) = Validity.the-variants.Invalid (errorOf n vs)
 
 validity-back : (r : Validity.Validity) → validityOf (validityAnswer r) ≡ r
 validity-back Validity.the-variants.Valid = refl
-validity-back (Validity.the-variants.Invalid e) = ap Validity.the-variants.Invalid (error-back e)
+validity-back (Validity.the-variants.Invalid e) = refused-back validityOf Validity.the-variants.Invalid (λ n vs. refl) e
 
 pub validity-lossless : (p q : Validity.Validity) → validityAnswer p ≡ validityAnswer q → p ≡ q
 validity-lossless = lossless validityAnswer validityOf validity-back
@@ -64,7 +73,7 @@ newOf (refused n vs) = NewResult.the-variants.Err (errorOf n vs)
 
 new-back : (r : NewResult.NewResult) → newOf (newAnswer r) ≡ r
 new-back (NewResult.the-variants.Ok t) = refl
-new-back (NewResult.the-variants.Err e) = ap NewResult.the-variants.Err (error-back e)
+new-back (NewResult.the-variants.Err e) = refused-back newOf NewResult.the-variants.Err (λ n vs. refl) e
 
 pub new-lossless : (p q : NewResult.NewResult) → newAnswer p ≡ newAnswer q → p ≡ q
 new-lossless = lossless newAnswer newOf new-back
@@ -86,7 +95,7 @@ secondsOf (refused n vs) = SecondsResult.the-variants.Err (errorOf n vs)
 
 seconds-back : (r : SecondsResult.SecondsResult) → secondsOf (secondsAnswer r) ≡ r
 seconds-back (SecondsResult.the-variants.Ok n) = refl
-seconds-back (SecondsResult.the-variants.Err e) = ap SecondsResult.the-variants.Err (error-back e)
+seconds-back (SecondsResult.the-variants.Err e) = refused-back secondsOf SecondsResult.the-variants.Err (λ n vs. refl) e
 
 pub seconds-lossless : (p q : SecondsResult.SecondsResult) → secondsAnswer p ≡ secondsAnswer q → p ≡ q
 seconds-lossless = lossless secondsAnswer secondsOf seconds-back
@@ -97,7 +106,7 @@ weekdayOf (refused n vs) = WeekdayResult.the-variants.Err (errorOf n vs)
 
 weekday-back : (r : WeekdayResult.WeekdayResult) → weekdayOf (weekdayAnswer r) ≡ r
 weekday-back (WeekdayResult.the-variants.Ok n) = refl
-weekday-back (WeekdayResult.the-variants.Err e) = ap WeekdayResult.the-variants.Err (error-back e)
+weekday-back (WeekdayResult.the-variants.Err e) = refused-back weekdayOf WeekdayResult.the-variants.Err (λ n vs. refl) e
 
 pub weekday-lossless : (p q : WeekdayResult.WeekdayResult) → weekdayAnswer p ≡ weekdayAnswer q → p ≡ q
 weekday-lossless = lossless weekdayAnswer weekdayOf weekday-back

@@ -5,7 +5,8 @@ use mathlib.Core.Path.{_≡_}
 use Prim.Native.Nat.{ℕ, _+_, _-_, _≤_}
 use native.Mathlib.Omega.{arith}
 use Rattle.computed.proofs.Claim.{Claim, eq, le, and, Means, each}
-use Rattle.gregorian.specs.Calendar.{leap, months, sum, monthLength, daysBeforeMonth}
+use Rattle.gregorian.specs.Calendar.{leap, months, monthLength}
+use Rattle.gregorian.specs.DayNumbers.{sum, daysBeforeMonth}
 use Rattle.gregorian.proofs.Months.{bit, size, before}
 use Rattle.calendar.specs.Formula.{marchMonth}
 

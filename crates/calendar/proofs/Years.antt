@@ -3,7 +3,8 @@
 use Prim.Native.Nat.{ℕ, _+_, _-_, _*_, _/_, _%_, _≤_}
 use native.Mathlib.Omega.{arith}
 use Rattle.computed.proofs.Claim.{Claim, eq, and, Means, each}
-use Rattle.gregorian.specs.Calendar.{divides, leap, months, sum, yearLength, daysOfYears}
+use Rattle.gregorian.specs.Calendar.{divides, leap, months}
+use Rattle.gregorian.specs.DayNumbers.{sum, yearLength, daysOfYears}
 use Rattle.gregorian.proofs.Months.{bit}
 use Rattle.calendar.proofs.Formula.{start, startInEra, yearOfEra}
 

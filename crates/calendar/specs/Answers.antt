@@ -1,8 +1,8 @@
--- The answers of the public calls as document 01 numbers them, each by the cases of its enum.
+-- 'Where to use each form': the number and the values of each public call's answer, by the cases of its enum.
 -- Assumes nothing.
 use Prim.Native.Nat.{ℕ}
-use mathlib.Core.List.{List, [], _∷_}
-use lib.IntN.{ℤ, pos}
+use mathlib.Core.List.{[], _∷_}
+use lib.IntN.{pos}
 use Rattle.refusals.specs.Numbered.{Numbered, accepted, refused}
 use Rattle.calendar.specs.declared.DateTime.{DateTime}
 use Rattle.calendar.specs.declared.DateTimeError.{DateTimeError}
@@ -13,26 +13,14 @@ use Rattle.calendar.specs.declared.FromSecondsResult as FromSecondsResul
 use Rattle.calendar.specs.declared.SecondsResult as SecondsResult
 use Rattle.calendar.specs.declared.WeekdayResult as WeekdayResult
 
--- the number of a refusal
-abbrev pub errorNumber : DateTimeError → ℕ
-errorNumber (Year y) = 1
-errorNumber (Month m) = 2
-errorNumber (Day y m d) = 3
-errorNumber (Hour h) = 4
-errorNumber (Minute m) = 5
-errorNumber (Second s) = 6
-
--- and its values
-abbrev pub errorValues : DateTimeError → List ℤ
-errorValues (Year y) = pos y ∷ []
-errorValues (Month m) = pos m ∷ []
-errorValues (Day y m d) = pos y ∷ pos m ∷ pos d ∷ []
-errorValues (Hour h) = pos h ∷ []
-errorValues (Minute m) = pos m ∷ []
-errorValues (Second s) = pos s ∷ []
-
+-- 'The table of refusals': 1 to 6, with the values
 abbrev pub refusedBy : {A : Type 0} → DateTimeError → Numbered A
-refusedBy e = refused (errorNumber e) (errorValues e)
+refusedBy (Year y) = refused 1 (pos y ∷ [])
+refusedBy (Month m) = refused 2 (pos m ∷ [])
+refusedBy (Day y m d) = refused 3 (pos y ∷ pos m ∷ pos d ∷ [])
+refusedBy (Hour h) = refused 4 (pos h ∷ [])
+refusedBy (Minute m) = refused 5 (pos m ∷ [])
+refusedBy (Second s) = refused 6 (pos s ∷ [])
 
 abbrev pub validityAnswer : Validity.Validity → Numbered (Unit {0})
 validityAnswer Validity.the-variants.Valid = accepted tt

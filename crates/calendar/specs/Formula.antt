@@ -1,4 +1,4 @@
--- The code's formulas (Howard Hinnant's) on a year that starts in March, which only private contracts cite.
+-- Need not be believed: `number` (proofs/Hinnant.antt) equates these formulas of the code (Howard Hinnant's), on a year that starts in March, with `dayNumber`. Only private contracts cite them.
 -- Assumes nothing.
 use Prim.Native.Nat.{ℕ, _+_, _-_, _*_, _/_}
 

@@ -1,3 +1,4 @@
+pub mod AsTime
 pub mod Dates
 pub mod Answers
 pub mod Formula

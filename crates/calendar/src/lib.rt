@@ -7,10 +7,13 @@ ghost use Prim.Native.Nat.{_+_, _-_, _%_, _<_, _≤_};
 ghost use mathlib.Core.Logic.{_⊎_};
 ghost use lib.Dec.{ltb};
 ghost use Rattle.refusals.specs.Numbered.{accepted, andThen};
-ghost use Rattle.gregorian.specs.Calendar.{leap, monthLength, dayNumber, dateOfDay};
-ghost use Rattle.gregorian.specs.Times.{ValidDate, nearestIn, checkedSeconds};
+ghost use Rattle.gregorian.specs.Calendar.{leap, monthLength, dateOfDay};
+ghost use Rattle.gregorian.specs.DayNumbers.{dayNumber};
+ghost use Rattle.gregorian.specs.Times.{nearestIn, checkedSeconds};
+ghost use Rattle.gregorian.specs.Ranges.{ValidDate};
 ghost use Rattle.calendar.specs.Formula.{marchYear, marchMonth};
-ghost use Rattle.calendar.specs.Dates.{dateTime, InRange, checked, secondsOf, timeOf, weekdayOf, nearest};
+ghost use Rattle.calendar.specs.AsTime.{dateTime};
+ghost use Rattle.calendar.specs.Dates.{InRange, checked, secondsOf, timeOf, weekdayOf, nearest};
 ghost use Rattle.calendar.specs.Answers.{validityAnswer, newAnswer, fromSecondsAnswer, secondsAnswer, weekdayAnswer};
 use gregorian::Date;
 

@@ -7,7 +7,7 @@
 ghost use mathlib.Core.Path.{_≡_};
 ghost use Prim.Native.Nat.{_*_, _^_};
 ghost use Rattle.refusals.specs.Numbered.{accepted, andThen};
-ghost use Rattle.calendar.specs.Answers.{errorNumber};
+ghost use Rattle.calendar.specs.Answers.{refusedBy};
 ghost use Rattle.calendar.specs.Stated.{dateTime, checkedSeconds, checked, timeOf, secondsOf};
 ghost use Rattle.dates_host.specs.Packed.{packedDate, hostDate, hostSeconds};
 use calendar::DateTime;
@@ -83,7 +83,7 @@ fn packed(date: DateTime) -> u64
 
 // The number of what is wrong with a date.
 fn number(error: DateTimeError) -> u8
-    ensures { λ r. ⌜ r ≡ errorNumber error ⌝ }
+    ensures { λ r. ⌜ r * 2 ^ 56 ≡ hostSeconds (refusedBy error) ⌝ }
 {
     match error {
         DateTimeError::Year(_) => 1,

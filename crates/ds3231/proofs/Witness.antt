@@ -15,7 +15,8 @@ use Rattle.calendar.specs.Stated.{InRange, dateTime, withDay, secondsOf, timeOf
 use Rattle.calendar.proofs.Laws.{in-range-accepted, time-of-seconds, seconds-below, seconds-formula, seconds-day, month-bounds}
 use Rattle.calendar.proofs.Examples.{examples}
 use Rattle.calendar.specs.declared.DateTime.{DateTime}
-use Rattle.fields.specs.Table.{sets, bit, toDigits, fromDigits, decimal, inField, plainMeaning, dialMeaning, monthMeaning, meaning, hourByte, fieldByte, timeBytes}
+use Rattle.fields.specs.Bytes.{toDigits, hourByte, fieldByte}
+use Rattle.fields.specs.Table.{sets, bit, fromDigits, decimal, inField, plainMeaning, dialMeaning, monthMeaning, meaning, timeBytes}
 use Rattle.diagnostics.specs.declared.ChipName.the-variants.{Ds3231}
 use Rattle.diagnostics.specs.declared.I2cDiagnostic.{I2cDiagnostic}
 use Rattle.diagnostics.specs.declared.I2cDiagnosticKind.the-variants.{ReadOnly}

@@ -12,7 +12,8 @@ use Rattle.refusals.specs.Numbered.{Numbered, accepted, refused, isAccepted, an
 use Rattle.computed.specs.Choice.{if_then_else_}
 use Rattle.calendar.specs.Stated.{checked, withDay, weekdayOf, monthLength}
 use Rattle.calendar.specs.declared.DateTime.{DateTime}
-use Rattle.fields.specs.Table.{toDigits, meaning}
+use Rattle.fields.specs.Bytes.{toDigits}
+use Rattle.fields.specs.Table.{meaning}
 use Rattle.diagnostics.specs.Reports.{report, countedAll, storedAll}
 use Rattle.diagnostics.specs.declared.I2cDiagnosticKind.the-variants.{NotModelled, ReadOnly, NoSuchRegister, Undefined}
 use Rattle.diagnostics.specs.declared.I2cDiagnostic.{I2cDiagnostic}

@@ -8,6 +8,7 @@ use Rattle.computed.specs.Choice.{if_then_else_}
 use Rattle.calendar.specs.Stated.{checked}
 use Rattle.calendar.specs.Answers.{refusedBy}
 use Rattle.calendar.specs.declared.DateTimeError.{DateTimeError}
+use Rattle.calendar.proofs.Validated.{by-refused, passed-on}
 use Rattle.ds3231.specs.Calls.{sound, soundTiming, inQuarters, checkedQuarters, chipOn, powerOn}
 use Rattle.ds3231.proofs.ExactTime.{power-on-sound, power-on-offset}
 use Rattle.ds3231.specs.declared.Ds3231.{Ds3231}
@@ -40,7 +41,8 @@ module _ (f : Ds3231Config) (r : PowerOn) where
 
   pub no-start : (x : DateTimeError) → refusedBy x ≡ checked (f .start) → r .answer ≡ Start x → r .chip ≡ noChip → PoweredOn f r
   no-start x v a c =
-      let e = power-is f (refusedBy x) (inQuarters (f .«temperature_quarters»)) (sym v) refl in powered f r (Start x) noChip a c (sym e) (sym (ap poweredChip e))
+      let e = passed-on _ x ∙ sym (power-is f (refusedBy x) (inQuarters (f .«temperature_quarters»)) (sym v) refl) in
+      powered f r (Start x) noChip a c e (by-refused {B = Unit {0}} (λ r s. noChip ≡ poweredChip r) (λ n vs. refl) x ∙ ap poweredChip e)
 
 -- every call on the chip of a refused power-on gives 10
 pub no-chip-not-sound : sound noChip ≡ false

@@ -17,7 +17,8 @@ use Rattle.calendar.specs.declared.DateTime.{DateTime}
 use Rattle.calendar.specs.Stated.{InRange}
 use Rattle.calendar.proofs.Laws.{month-bounds}
 use Rattle.computed.proofs.Lossless.{lossless}
-use Rattle.fields.specs.Table.{Meaning, undefined, sets, bit, toDigits, fromDigits, decimal, inField, plainMeaning, dialMeaning, monthMeaning, meaning, hourByte, fieldByte, timeBytes}
+use Rattle.fields.specs.Bytes.{toDigits, hourByte, fieldByte}
+use Rattle.fields.specs.Table.{Meaning, undefined, sets, bit, fromDigits, decimal, inField, plainMeaning, dialMeaning, monthMeaning, meaning, timeBytes}
 
 -- the range of each register's field, as numbers
 pub record Bounds (r n : ℕ) : Type 0 where
@@ -210,6 +211,19 @@ field-of-byte r b q n flag h e =
     let i = in-field r b q n flag e in
     let k = field-bounds r n (i .1) in
     ap (λ (j : ℕ). fieldByte j n flag) (sym (i .0)) ∙ subst (λ (m : Meaning). Means (isByte b m)) e (each-byte r b (omega arith) h)
+
+-- a number below 100 is that of its two digits, and two digits are those of their number
+pub number-of-digits : (n : ℕ) → n ≤ 99 → (decimal (toDigits n) ≡ true) × (fromDigits (toDigits n) ≡ n)
+unfolding decimal fromDigits toDigits
+number-of-digits n h =
+    let c = each (λ k. and (and (le (toDigits k / 16) 9) (le (toDigits k % 16) 9)) (eq (fromDigits (toDigits k)) k)) 0 100 tt n (omega arith) (omega arith) in
+    (rw (le-leb (toDigits n / 16) 9 (c .0 .0), le-leb (toDigits n % 16) 9 (c .0 .1)), c .1)
+
+pub digits-of-number : (b : ℕ) → decimal b ≡ true → toDigits (fromDigits b) ≡ b
+unfolding decimal fromDigits toDigits
+digits-of-number b h =
+    let d = both (leb (b / 16) 9) (leb (b % 16) 9) h in
+    omega (arith, leb-true (b / 16) 9 (d .0), leb-true (b % 16) 9 (d .1))
 
 -- the seven bytes
 pub seven-bytes : (t : DateTime) (weekday : ℕ) (twelve : Bool) → length (timeBytes t weekday twelve) ≡ 7

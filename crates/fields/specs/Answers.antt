@@ -1,4 +1,4 @@
--- What `decode` answers, as the table of the time registers has it, and what `from_bcd` answers.
+-- Need not be believed: no contract of a call of the chip cites it, and the contract of `decode` (src/lib.rt) equates what `decode` answers with `meaning` (specs/Table.antt).
 -- Assumes nothing.
 use Prim.Native.Nat.{ℕ}
 use mathlib.Core.Bool.{false, _&&_}

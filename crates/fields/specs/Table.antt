@@ -3,12 +3,12 @@
 use Prim.Native.Nat.{ℕ, _+_, _*_, _/_, _%_, _^_}
 use mathlib.Core.Bool.{Bool, true, false, not, _&&_}
 use mathlib.Core.List.{List, [], _∷_}
-use lib.Bits.{bitOr}
 use lib.Dec.{leb, eqb}
 use Rattle.computed.specs.Choice.{if_then_else_}
 use Rattle.calendar.specs.declared.DateTime.{DateTime}
+use Rattle.fields.specs.Bytes.{fieldByte}
 
--- what a byte says at a register: undefined, or the register's field and a flag, which is the 12-hour mode of an hour, the century bit of a month, and else false
+-- 'Register bytes': what a written byte says at a register: undefined, or the register's field and a flag, which is the 12-hour mode of an hour, the century bit of a month, and else false
 pub data Meaning : Type 0 where
   undefined : Meaning
   sets : (register : ℕ) (field : ℕ) (flag : Bool) → Meaning
@@ -17,17 +17,14 @@ pub data Meaning : Type 0 where
 unfoldable pub bit : ℕ → ℕ → Bool
 bit k b = eqb (b / 2 ^ k % 2) 1
 
--- binary-coded decimal: the two digits of a number (of one above 159, those that eight bits keep), the number of two digits, and that neither digit exceeds 9
-unfoldable pub toDigits : ℕ → ℕ
-toDigits n = 16 * (n / 10 % 16) + n % 10
-
+-- 'Register bytes': binary-coded decimal: the number of two digits, and that neither digit exceeds 9
 unfoldable pub fromDigits : ℕ → ℕ
 fromDigits b = 10 * (b / 16) + b % 16
 
 unfoldable pub decimal : ℕ → Bool
 decimal b = leb (b / 16) 9 && leb (b % 16) 9
 
--- the range of each register's field: seconds, minutes, hours, weekday, date, month, year
+-- 'Register bytes': the range of each register's field: seconds, minutes, hours, weekday, date, month, year
 unfoldable pub inField : ℕ → ℕ → Bool
 inField r n =
     if eqb r 0 then leb n 59
@@ -39,47 +36,32 @@ inField r n =
     else if eqb r 6 then leb n 99
     else false
 
--- a byte that is two digits and no more
+-- 'Register bytes': a byte that is two digits and no more is undefined when a digit exceeds 9 or the field is out of range
 unfoldable pub plainMeaning : ℕ → ℕ → Meaning
 plainMeaning r b = if decimal b && inField r (fromDigits b) then sets r (fromDigits b) false else undefined
 
--- an hour on a dial of 1 to 12, in bits 4 to 0: bit 5 set is PM, bit 7 must be 0
+-- 'Register bytes': an hour on a dial of 1 to 12, in bits 4 to 0: bit 5 set is PM, bit 7 must be 0
 unfoldable pub dialMeaning : ℕ → Meaning
 dialMeaning b =
     if not (bit 7 b) && decimal (b % 32) && leb 1 (fromDigits (b % 32)) && leb (fromDigits (b % 32)) 12
     then sets 2 (fromDigits (b % 32) % 12 + (if bit 5 b then 12 else 0)) true
     else undefined
 
--- a month in bits 4 to 0: bit 7 set means 2100 to 2199, bits 6 and 5 must be 0
+-- 'Register bytes': a month in bits 4 to 0: bit 7 set means 2100 to 2199, bits 6 and 5 must be 0
 unfoldable pub monthMeaning : ℕ → Meaning
 monthMeaning b =
     if not (bit 6 b) && not (bit 5 b) && decimal (b % 32) && inField 5 (fromDigits (b % 32))
     then sets 5 (fromDigits (b % 32)) (bit 7 b)
     else undefined
 
--- what a byte says at a register; nothing at a register above 0x06. Bit 6 of an hour set is 12-hour mode.
+-- 'Register bytes': what a byte says at a register; nothing at a register above 0x06. Bit 6 of an hour set is 12-hour mode.
 unfoldable pub meaning : ℕ → ℕ → Meaning
 meaning r b =
     if eqb r 2 then (if bit 6 b then dialMeaning b else plainMeaning 2 b)
     else if eqb r 5 then monthMeaning b
     else plainMeaning r b
 
--- the byte of an hour: in 24-hour mode its digits; in 12-hour mode bit 6, bit 5 from 12 on, and the digits on the dial
-unfoldable pub hourByte : ℕ → Bool → ℕ
-hourByte h twelve =
-    if twelve
-    then bitOr (bitOr 0x40 (if leb 12 h then 0x20 else 0)) (toDigits (if eqb (h % 12) 0 then 12 else h % 12))
-    else toDigits h
-
--- the byte of a register's field
-unfoldable pub fieldByte : ℕ → ℕ → Bool → ℕ
-fieldByte r n flag =
-    if eqb r 2 then hourByte n flag
-    else if eqb r 3 then n
-    else if eqb r 5 then bitOr (toDigits n) (if flag then 0x80 else 0)
-    else toDigits n
-
--- the seven bytes at 0x00 to 0x06 of a time, its weekday and an hour mode
+-- 'Register bytes': 0x00 to 0x06 are seconds, minutes, hours, weekday, date, month, year, here of a time, its weekday and an hour mode
 unfoldable pub timeBytes : DateTime → ℕ → Bool → List ℕ
 timeBytes t weekday twelve =
     fieldByte 0 (t .second) false

@@ -1,11 +1,12 @@
 // The bytes of the time registers 0x00 to 0x06 and the fields that they stand for.
 // To read it: `specs/Table.antt` says which byte is defined, which field it sets, and the seven bytes of a time;
-// `proofs/Laws.antt` that a byte and its field go both ways.
+// `specs/Bytes.antt` has the byte of a field, and `proofs/Laws.antt` that a byte and its field go both ways.
 ghost use mathlib.Core.Path.{_≡_};
 ghost use Prim.Native.Nat.{_%_};
 ghost use lib.Dec.{leb, eqb};
 ghost use Rattle.computed.specs.Choice.{if_then_else_};
-ghost use Rattle.fields.specs.Table.{bit, toDigits, meaning, hourByte, timeBytes};
+ghost use Rattle.fields.specs.Bytes.{toDigits, hourByte};
+ghost use Rattle.fields.specs.Table.{bit, meaning, timeBytes};
 ghost use Rattle.fields.specs.Answers.{decodedMeaning, ofDigits, ofDigitsWithin};
 use calendar::DateTime;
 

@@ -12,7 +12,8 @@ use Rattle.refusals.specs.Numbered.{Numbered, accepted, refused}
 use Rattle.computed.specs.Choice.{if_then_else_}
 use Rattle.computed.proofs.Choice.{chosen, both, both-false}
 use Rattle.gregorian.specs.Calendar.{monthLength}
-use Rattle.gregorian.specs.Times.{Time, Valid, within, checkedTime}
+use Rattle.gregorian.specs.Times.{Time, within, checkedTime}
+use Rattle.gregorian.specs.Ranges.{Valid}
 
 -- a number from a to b, and one below a or above b
 abbrev pub In : ℕ → ℕ → ℕ → Type 0

@@ -1,14 +1,15 @@
--- The days counted one by one, and the sums: `dateOfDay n` is a date of the calendar and n is its day number; a date of the years 2000 to 2199 has a number below 73,049.
+-- The days counted one by one, and the sums: `dateOfDay n` is a date of the calendar and n is its day number, and every date of the calendar is that of its day number; a date of the years 2000 to 2199 has a number below 73,049.
 -- Assumes nothing.
-use mathlib.Core.Path.{_≡_, refl, ap, _∙_}
+use mathlib.Core.Path.{_≡_, refl, sym, ap, ap₂, _∙_}
 use mathlib.Core.Logic.{⊎-elim}
 use Prim.Native.Nat.{ℕ, zero, suc, _+_, _-_, _≤_, _<_}
 use native.Mathlib.Omega.{arith}
 use native.Mathlib.Decide.{le-ind}
 use lib.Dec.{lit≤}
 use Rattle.computed.proofs.Choice.{by-lt, le-or-lt}
-use Rattle.gregorian.specs.Calendar.{divides, leap, months, sum, monthLength, yearLength, daysBeforeMonth, daysOfYears, dayNumber, nextDay, dateOfDay}
-use Rattle.gregorian.specs.Times.{ValidDate}
+use Rattle.gregorian.specs.Calendar.{divides, leap, months, monthLength, nextDay, dateOfDay}
+use Rattle.gregorian.specs.DayNumbers.{sum, yearLength, daysBeforeMonth, daysOfYears, dayNumber}
+use Rattle.gregorian.specs.Ranges.{ValidDate}
 use Rattle.gregorian.specs.declared.Date.{Date}
 use Rattle.gregorian.proofs.Months.{month-step, month-bounds, whole-year}
 
@@ -77,6 +78,49 @@ years : (k n : ℕ) → k ≤ n → daysOfYears k ≤ daysOfYears n
 unfolding daysOfYears
 years k = le-ind (λ n. daysOfYears k ≤ daysOfYears n) (omega arith) (λ n p h. omega arith)
 
+-- months before one another
+months-before : (y m n : ℕ) → 1 ≤ m → m ≤ n → n ≤ 12 → daysBeforeMonth y m ≤ daysBeforeMonth y n
+months-before y m n h =
+    le-ind (λ n. n ≤ 12 → daysBeforeMonth y m ≤ daysBeforeMonth y n) (λ q. omega arith)
+    (λ n p f q.
+    let e : daysBeforeMonth y (n + 1) ≡ daysBeforeMonth y (suc n) = ap (daysBeforeMonth y) (omega arith) in
+    omega (arith, f (omega arith), month-step y n (omega arith) (omega arith))) n
+
+-- of two dates with one number neither has the later year, and in one year neither has the later month
+year-not-later : (t u : Date) → OnCalendar t → OnCalendar u → numberOf t ≡ numberOf u → u .year ≤ t .year
+unfolding dayNumber
+year-not-later t u h k e =
+    ⊎-elim (λ p. p)
+    (λ p. omega (arith, next-year (t .year) (h .year-from), whole-year (t .year), month-step (t .year) (t .month) (h .month-from) (h .month-to), years (t .year + 1 - 2000) (u .year - 2000) (omega arith)))
+    (le-or-lt (u .year) (t .year))
+
+month-not-later : (y : ℕ) (t u : Date) → OnCalendar t → OnCalendar u → t .year ≡ y → u .year ≡ y → numberOf t ≡ numberOf u → u .month ≤ t .month
+unfolding dayNumber
+month-not-later y t u h k a b e =
+    let f : daysBeforeMonth (t .year) (t .month) ≡ daysBeforeMonth y (t .month) = ap (λ (z : ℕ). daysBeforeMonth z (t .month)) a in
+    let g : daysBeforeMonth (u .year) (u .month) ≡ daysBeforeMonth y (u .month) = ap (λ (z : ℕ). daysBeforeMonth z (u .month)) b in
+    let l : monthLength (t .year) (t .month) ≡ monthLength y (t .month) = ap (λ (z : ℕ). monthLength z (t .month)) a in
+    let i : daysOfYears (t .year - 2000) ≡ daysOfYears (u .year - 2000) = ap (λ (z : ℕ). daysOfYears (z - 2000)) (a ∙ sym b) in
+    ⊎-elim (λ p. p)
+    (λ p. omega (arith, month-step y (t .month) (h .month-from) (h .month-to), months-before y (t .month + 1) (u .month) (omega arith) (omega arith) (k .month-to)))
+    (le-or-lt (u .month) (t .month))
+
+same-date : (y m d y′ m′ d′ : ℕ) → y ≡ y′ → m ≡ m′ → d ≡ d′ → _≡_ {A = Date} (record { year = y; month = m; day = d }) (record { year = y′; month = m′; day = d′ })
+same-date y m d y′ m′ d′ p q r = cc
+
+same-number : (t u : Date) → OnCalendar t → OnCalendar u → numberOf t ≡ numberOf u → t ≡ u
+unfolding dayNumber
+same-number t u h k e =
+    let y : t .year ≡ u .year = omega (arith, year-not-later t u h k e, year-not-later u t k h (sym e)) in
+    let m : t .month ≡ u .month = omega (arith, month-not-later (u .year) t u h k y refl e, month-not-later (u .year) u t k h refl y (sym e)) in
+    let f : daysOfYears (t .year - 2000) + daysBeforeMonth (t .year) (t .month) ≡ daysOfYears (u .year - 2000) + daysBeforeMonth (u .year) (u .month) =
+    ap₂ (λ (a b : ℕ). daysOfYears (a - 2000) + daysBeforeMonth a b) y m in
+    same-date _ _ _ _ _ _ y m (omega arith)
+
+-- the date of the day number of a date of the calendar is that date
+pub dateOfDay-number : (t : Date) → OnCalendar t → dateOfDay (numberOf t) ≡ t
+dateOfDay-number t h = same-number _ t (dateOfDay-on (numberOf t)) h (number-dateOfDay (numberOf t))
+
 number-inside : (y m d : ℕ) → dayNumber y m d < 73049 → y ≤ 2199
 unfolding dayNumber
 number-inside y m d h =
@@ -86,6 +130,10 @@ pub number-below : (y m d : ℕ) → ValidDate y m d → dayNumber y m d < 73049
 unfolding dayNumber
 number-below y m d h =
     omega (arith, next-year y (h .year-from), whole-year y, month-step y m (h .month-from) (h .month-to), years (y + 1 - 2000) 200 (omega arith), all-years)
+
+-- a date of the years 2000 to 2199 is one of the calendar
+pub valid-on : (t : Date) → ValidDate (t .year) (t .month) (t .day) → OnCalendar t
+valid-on t h = record { year-from = h .year-from; month-from = h .month-from; month-to = h .month-to; day-from = h .day-from; day-to = h .day-to }
 
 -- the date of a day below 73,049 is one of the years 2000 to 2199
 pub dateOfDay-valid : (n : ℕ) → n < 73049 → ValidDate (dateOfDay n .year) (dateOfDay n .month) (dateOfDay n .day)

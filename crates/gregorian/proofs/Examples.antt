@@ -7,7 +7,8 @@ use lib.Dec.{lit<}
 use lib.IntN.{pos}
 use Rattle.refusals.specs.Numbered.{accepted, refused}
 use Rattle.gregorian.specs.Calendar.{divides, leap, months, monthLength, nextDay, dateOfDay}
-use Rattle.gregorian.specs.Times.{Time, Valid, within, checkedTime, checkedSeconds, secondsTo, timeAfter, weekdayOn}
+use Rattle.gregorian.specs.Times.{Time, within, checkedTime, checkedSeconds, secondsTo, timeAfter, weekdayOn}
+use Rattle.gregorian.specs.Ranges.{Valid}
 use Rattle.gregorian.proofs.Days.{number-dateOfDay}
 use Rattle.gregorian.proofs.Weekdays.{weekday-of-day}
 use Rattle.gregorian.proofs.Checked.{valid-accepted}

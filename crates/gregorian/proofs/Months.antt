@@ -9,7 +9,8 @@ use lib.ListN.{getD, take, length, List·getD-eq-default}
 use Rattle.computed.specs.Choice.{if_then_else_}
 use Rattle.computed.proofs.Claim.{Claim, eq, le, and, Means, each}
 use Rattle.computed.proofs.Choice.{le-or-lt}
-use Rattle.gregorian.specs.Calendar.{leap, months, sum, monthLength, daysBeforeMonth, yearLength}
+use Rattle.gregorian.specs.Calendar.{leap, months, monthLength}
+use Rattle.gregorian.specs.DayNumbers.{sum, daysBeforeMonth, yearLength}
 
 -- the leap day, as a number of days
 abbrev pub bit : Bool → ℕ

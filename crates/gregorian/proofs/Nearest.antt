@@ -6,7 +6,8 @@ use native.Mathlib.Omega.{arith}
 use borrow.Author.Tests.{lt-ltb, le-ltb}
 use Rattle.computed.proofs.Choice.{by-lt}
 use Rattle.gregorian.specs.Calendar.{monthLength}
-use Rattle.gregorian.specs.Times.{Time, Valid, nearestIn, nearestTime, withDay}
+use Rattle.gregorian.specs.Times.{Time, nearestIn, nearestTime}
+use Rattle.gregorian.specs.Ranges.{Valid}
 use Rattle.gregorian.proofs.Months.{month-bounds}
 
 module _ (a b n : ℕ) where
@@ -49,6 +50,10 @@ nearest-valid t =
       minute-to = in-range 0 59 (t .minute) (omega arith) .1;
       second-to = in-range 0 59 (t .second) (omega arith) .1;
     }
+
+-- a time with another day
+abbrev pub withDay : ℕ → Time → Time
+withDay d t = record { year = t .year; month = t .month; day = d; hour = t .hour; minute = t .minute; second = t .second }
 
 -- a time that is valid apart from its day has a nearest that differs at most in the day
 nearest-but-day : (t : Time) (d : ℕ) → Valid (withDay 1 t) → nearestIn 1 (monthLength (t .year) (t .month)) (t .day) ≡ d → nearestTime t ≡ withDay d t

@@ -4,7 +4,7 @@ use Prim.Native.Nat.{ℕ, zero, suc, _+_, _-_, _%_}
 use mathlib.Core.Bool.{Bool, not, _&&_, _||_}
 use mathlib.Core.List.{List, [], _∷_}
 use lib.Dec.{ltb, eqb}
-use lib.ListN.{getD, take}
+use lib.ListN.{getD}
 use Rattle.computed.specs.Choice.{if_then_else_}
 use Rattle.gregorian.specs.declared.Date.{Date}
 
@@ -12,7 +12,7 @@ use Rattle.gregorian.specs.declared.Date.{Date}
 unfoldable pub divides : ℕ → ℕ → Bool
 divides k n = eqb (n % k) 0
 
--- a year is leap if it is divisible by 4, and not by 100 unless by 400
+-- 'Dates, seconds, weekdays': a year is leap if it is divisible by 4, and not by 100 unless by 400
 unfoldable pub leap : ℕ → Bool
 leap y = divides 4 y && (not (divides 100 y) || divides 400 y)
 
@@ -23,28 +23,6 @@ months isLeap = 31 ∷ (if isLeap then 29 else 28) ∷ 31 ∷ 30 ∷ 31 ∷ 30 �
 -- the length of month m, 1 to 12, of year y. A month 0 counts as January, one above 12 as a month of 31 days.
 unfoldable pub monthLength : ℕ → ℕ → ℕ
 monthLength y m = getD (months (leap y)) (m - 1) 31
-
--- the sum of a list
-unfoldable pub sum : List ℕ → ℕ
-sum [] = 0
-sum (n ∷ ns) = n + sum ns
-
--- the days of year y
-unfoldable pub yearLength : ℕ → ℕ
-yearLength y = sum (months (leap y))
-
--- the days of year y before its month m
-unfoldable pub daysBeforeMonth : ℕ → ℕ → ℕ
-daysBeforeMonth y m = sum (take (m - 1) (months (leap y)))
-
--- the days of the first k years from 2000 on
-unfoldable pub daysOfYears : ℕ → ℕ
-daysOfYears zero = 0
-daysOfYears (suc k) = daysOfYears k + yearLength (2000 + k)
-
--- the days from 2000-01-01 to a date: those of the years, the months and the days before it
-unfoldable pub dayNumber : ℕ → ℕ → ℕ → ℕ
-dayNumber y m d = daysOfYears (y - 2000) + daysBeforeMonth y m + (d - 1)
 
 -- the day after a date
 unfoldable pub nextDay : Date → Date
@@ -58,11 +36,11 @@ unfoldable pub dateOfDay : ℕ → Date
 dateOfDay zero = record { year = 2000; month = 1; day = 1 }
 dateOfDay (suc n) = nextDay (dateOfDay n)
 
--- the day of the week after w, Monday 1 to Sunday 7
+-- 'Dates, seconds, weekdays': the day of the week after w, Monday 1 to Sunday 7
 unfoldable pub nextWeekday : ℕ → ℕ
 nextWeekday w = if ltb w 7 then w + 1 else 1
 
--- the day of the week n days after 2000-01-01, a Saturday
+-- 'Dates, seconds, weekdays': the day of the week n days after 2000-01-01, which is 6
 unfoldable pub weekdayOfDay : ℕ → ℕ
 weekdayOfDay zero = 6
 weekdayOfDay (suc n) = nextWeekday (weekdayOfDay n)

@@ -1,2 +1,4 @@
 pub mod Calendar
+pub mod DayNumbers
 pub mod Times
+pub mod Ranges

@@ -1,13 +1,14 @@
 -- A date with a time of day, from 2000-01-01T00:00:00 to 2199-12-31T23:59:59: which are valid, their seconds since 2000, and the nearest valid time.
 -- Assumes nothing.
-use Prim.Native.Nat.{ℕ, _+_, _*_, _/_, _%_, _≤_}
+use Prim.Native.Nat.{ℕ, _+_, _*_, _/_, _%_}
 use mathlib.Core.Bool.{Bool, not, _&&_}
 use mathlib.Core.List.{[], _∷_}
 use lib.Dec.{ltb, leb}
 use lib.IntN.{pos}
 use Rattle.computed.specs.Choice.{if_then_else_}
 use Rattle.refusals.specs.Numbered.{Numbered, accepted, refused}
-use Rattle.gregorian.specs.Calendar.{monthLength, dayNumber, dateOfDay, weekdayOfDay}
+use Rattle.gregorian.specs.Calendar.{monthLength, dateOfDay, weekdayOfDay}
+use Rattle.gregorian.specs.DayNumbers.{dayNumber}
 
 -- a date and a time of day, whose fields may be any numbers
 pub record Time : Type 0 where
@@ -18,27 +19,11 @@ pub record Time : Type 0 where
   pub minute : ℕ
   pub second : ℕ
 
--- a date of the years 2000 to 2199
-pub record ValidDate (y m d : ℕ) : Type 0 where
-  pub year-from : 2000 ≤ y
-  pub year-to : y ≤ 2199
-  pub month-from : 1 ≤ m
-  pub month-to : m ≤ 12
-  pub day-from : 1 ≤ d
-  pub day-to : d ≤ monthLength y m
-
--- a time whose every field is in its range
-pub record Valid (t : Time) : Type 0 where
-  pub date : ValidDate (t .year) (t .month) (t .day)
-  pub hour-to : t .hour ≤ 23
-  pub minute-to : t .minute ≤ 59
-  pub second-to : t .second ≤ 59
-
 -- n is from a to b
 unfoldable pub within : ℕ → ℕ → ℕ → Bool
 within a b n = leb a n && leb n b
 
--- the check of a time: refusal 1 to 6 for the first field out of its range
+-- 'Dates, seconds, weekdays': the check of year, month, day, hour, minute, second gives the first fault, and there is no second 60; 'The table of refusals': 1 to 6, with the values
 unfoldable pub checkedTime : Time → Numbered (Unit {0})
 checkedTime t =
     if not (within 2000 2199 (t .year)) then refused 1 (pos (t .year) ∷ [])
@@ -49,21 +34,21 @@ checkedTime t =
     else if not (within 0 59 (t .second)) then refused 6 (pos (t .second) ∷ [])
     else accepted tt
 
--- the seconds from 2000-01-01T00:00:00 to a time
+-- 'Dates, seconds, weekdays': the seconds from 2000-01-01T00:00:00 to a time
 unfoldable pub secondsTo : Time → ℕ
 secondsTo t = ((dayNumber (t .year) (t .month) (t .day) * 24 + t .hour) * 60 + t .minute) * 60 + t .second
 
--- the time s seconds after 2000-01-01T00:00:00
+-- 'Dates, seconds, weekdays': the time s seconds after 2000-01-01T00:00:00
 unfoldable pub timeAfter : ℕ → Time
 timeAfter s =
     let date = dateOfDay (s / 86400) in
     record { year = date .year; month = date .month; day = date .day; hour = s / 3600 % 24; minute = s / 60 % 60; second = s % 60 }
 
--- the check of a number of seconds since 2000: refusal 8 past the last second of 2199
+-- 'The table of refusals': 8 where a number of seconds since 2000 is 6,311,433,600 or more
 unfoldable pub checkedSeconds : ℕ → Numbered (Unit {0})
 checkedSeconds s = if ltb s 6311433600 then accepted tt else refused 8 []
 
--- the day of the week of a time, Monday 1 to Sunday 7
+-- 'Dates, seconds, weekdays': the day of the week of a time, Monday 1 to Sunday 7
 unfoldable pub weekdayOn : Time → ℕ
 weekdayOn t = weekdayOfDay (dayNumber (t .year) (t .month) (t .day))
 
@@ -77,7 +62,3 @@ nearestTime t =
     let y = nearestIn 2000 2199 (t .year) in
     let m = nearestIn 1 12 (t .month) in
     record { year = y; month = m; day = nearestIn 1 (monthLength y m) (t .day); hour = nearestIn 0 23 (t .hour); minute = nearestIn 0 59 (t .minute); second = nearestIn 0 59 (t .second) }
-
--- a time with another day
-abbrev pub withDay : ℕ → Time → Time
-withDay d t = record { year = t .year; month = t .month; day = d; hour = t .hour; minute = t .minute; second = t .second }

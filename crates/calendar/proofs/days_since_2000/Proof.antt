@@ -3,7 +3,7 @@
 use Prim.Native.Nat.{ℕ, _+_, _*_, _≤_}
 use native.Mathlib.Omega.{arith}
 use borrow.Author.Needs.{needs}
-use Rattle.gregorian.specs.Times.{ValidDate}
+use Rattle.gregorian.specs.Ranges.{ValidDate}
 use Rattle.gregorian.proofs.Months.{month-bounds}
 use Rattle.calendar.proofs.Formula.{start}
 use Rattle.calendar.proofs.Hinnant.{before-bounds, number}

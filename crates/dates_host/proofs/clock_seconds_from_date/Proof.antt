@@ -1,7 +1,6 @@
 -- `dates_host::clock_seconds_from_date` meets its contract, by what the calendar answers.
 -- Assumes nothing.
 use mathlib.Core.Path.{sym, ap, _∙_}
-use Prim.Native.Nat.{ℕ, _*_, _^_}
 use Rattle.calendar.specs.Answers.{secondsAnswer}
 use Rattle.dates_host.specs.Packed.{hostSeconds}
 use borrow.Author.Needs.{needs}
@@ -30,7 +29,7 @@ returns c =
 returns-2 : tie.Need-returns-2
 returns-2 c =
     c .refused .ensures ∙
-    ap (λ (n : ℕ). n * 2 ^ 56) (c .before .number .ensures) ∙
+    c .before .number .ensures ∙
     ap hostSeconds (sym (ap secondsAnswer (c .before .before .before .answer2 .given .1)) ∙ c .before .before .before .before .before .«seconds-since-2000» .ensures)
 
 pub clock-seconds-from-date-spec : {M : Type 1} → statement M

@@ -7,7 +7,7 @@ use lib.Bits.{bitOr}
 use lib.Dec.{leb, eqb}
 use borrow.Author.Tests.{not-true, not-false}
 use Rattle.computed.specs.Choice.{if_then_else_}
-use Rattle.fields.specs.Table.{toDigits, hourByte}
+use Rattle.fields.specs.Bytes.{toDigits, hourByte}
 use borrow.Author.Needs.{needs}
 use Rattle.fields.proofs.encode_hour.Statement.{statement}
 use Rattle.fields.proofs.encode_hour.Tie as tie

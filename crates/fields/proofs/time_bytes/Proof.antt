@@ -1,6 +1,7 @@
 -- `fields::time_bytes` meets its contract, byte by byte.
 -- Assumes nothing.
-use Rattle.fields.specs.Table.{fieldByte, timeBytes}
+use Rattle.fields.specs.Bytes.{fieldByte}
+use Rattle.fields.specs.Table.{timeBytes}
 use borrow.Author.Needs.{needs}
 use Rattle.fields.proofs.time_bytes.Statement.{statement}
 use Rattle.fields.proofs.time_bytes.Tie as tie

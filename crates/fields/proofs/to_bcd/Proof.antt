@@ -1,7 +1,7 @@
 -- `fields::to_bcd` meets its contract.
 -- Assumes nothing.
 use native.Mathlib.Omega.{arith}
-use Rattle.fields.specs.Table.{toDigits}
+use Rattle.fields.specs.Bytes.{toDigits}
 use borrow.Author.Needs.{needs}
 use Rattle.fields.proofs.to_bcd.Statement.{statement}
 use Rattle.fields.proofs.to_bcd.Tie as tie

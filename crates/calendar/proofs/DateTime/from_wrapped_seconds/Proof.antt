@@ -4,7 +4,7 @@ use mathlib.Core.Path.{_≡_}
 use Prim.Native.Nat.{ℕ, _/_, _%_}
 use native.Mathlib.Omega.{arith}
 use Rattle.gregorian.specs.Times.{timeAfter}
-use Rattle.calendar.specs.Dates.{timeOf-is}
+use Rattle.calendar.specs.Dates.{equations}
 use borrow.Author.Needs.{needs}
 use Rattle.calendar.proofs.DateTime.from_wrapped_seconds.Statement.{statement}
 use Rattle.calendar.proofs.DateTime.from_wrapped_seconds.Tie as tie
@@ -29,7 +29,7 @@ returns : tie.Need-returns
 unfolding timeAfter
 returns c =
     let p = split (c .before .args .seconds % 6311433600) in
-    rw (timeOf-is, c .civil-from-days .ensures, p .0, p .1, p .2)
+    rw (equations .timeOf-is, c .civil-from-days .ensures, p .0, p .1, p .2)
 
 pub from-wrapped-seconds-spec : {M : Type 1} → statement M
 from-wrapped-seconds-spec =

@@ -1,7 +1,7 @@
 -- `calendar::DateTime::nearest` meets its contract, field by field.
 -- Assumes nothing.
 use Rattle.gregorian.specs.Times.{nearestTime}
-use Rattle.calendar.specs.Dates.{nearest-is}
+use Rattle.calendar.specs.Dates.{equations}
 use borrow.Author.Needs.{needs}
 use Rattle.calendar.proofs.DateTime.nearest.Statement.{statement}
 use Rattle.calendar.proofs.DateTime.nearest.Tie as tie
@@ -32,7 +32,7 @@ unfolding nearestTime
 returns c =
     let f = c .before .before .before .before in
     rw (
-      nearest-is,
+      equations .nearest-is,
       f .before .before .clamp-u16 .ensures,
       f .before .clamp-u8 .ensures,
       c .before .before .before .clamp-u82 .ensures,

@@ -3,7 +3,7 @@
 use native.Mathlib.Omega.{arith}
 use Rattle.gregorian.specs.Times.{secondsTo}
 use Rattle.gregorian.proofs.Days.{number-below}
-use Rattle.calendar.specs.Dates.{secondsOf-is}
+use Rattle.calendar.specs.Dates.{equations}
 use borrow.Author.Needs.{needs}
 use Rattle.calendar.proofs.DateTime.seconds_of_valid.Statement.{statement}
 use Rattle.calendar.proofs.DateTime.seconds_of_valid.Tie as tie
@@ -40,7 +40,7 @@ add-result-3 c = omega (arith, c .before .before .before .days-since-2000 .ensur
 
 returns : tie.Need-returns
 unfolding secondsTo
-returns c = omega (arith, c .before .before .before .days-since-2000 .ensures, secondsOf-is (c .before .before .before .before .args .self))
+returns c = omega (arith, c .before .before .before .days-since-2000 .ensures, equations .secondsOf-is (c .before .before .before .before .args .self))
 
 pub seconds-of-valid-spec : {M : Type 1} → statement M
 seconds-of-valid-spec =

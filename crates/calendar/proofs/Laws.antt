@@ -3,7 +3,6 @@
 use mathlib.Core.List.{[]}
 use mathlib.Core.Path.{_≡_, sym, ap, subst, _∙_}
 use Prim.Native.Nat.{ℕ, _+_, _*_, _/_, _%_, _≤_, _<_}
-use native.Mathlib.Omega.{arith}
 use Rattle.refusals.specs.Numbered.{accepted, refused}
 use Rattle.gregorian.specs.Calendar.{monthLength}
 use Rattle.gregorian.specs.DayNumbers.{dayNumber}
@@ -77,35 +76,3 @@ nearest-past t v h = equations .nearest-is t ∙ ap asDateTime (Nearest.nearest-
 -- a month has 28 to 31 days
 pub month-bounds : (y m : ℕ) → (28 ≤ monthLength y m) × (monthLength y m ≤ 31)
 month-bounds = Months.month-bounds
-
--- every field but the day is in its range
-pub record InRangeButDay (t : DateTime) : Type 0 where
-  pub year-from : 2000 ≤ t .year
-  pub year-to : t .year ≤ 2199
-  pub month-from : 1 ≤ t .month
-  pub month-to : t .month ≤ 12
-  pub hour-to : t .hour ≤ 23
-  pub minute-to : t .minute ≤ 59
-  pub second-to : t .second ≤ 59
-
--- that is so exactly where the time with day 1 is in range, which is where the check accepts that time
-pub but-day-in-range : (t : DateTime) → InRangeButDay t → InRange (withDay 1 t)
-but-day-in-range t h =
-    let m = month-bounds (t .year) (t .month) in
-    record {
-      date = record { year-from = h .year-from; year-to = h .year-to; month-from = h .month-from; month-to = h .month-to; day-from = omega arith; day-to = omega (arith, m .0) };
-      hour-to = h .hour-to;
-      minute-to = h .minute-to;
-      second-to = h .second-to;
-    }
-
-pub in-range-but-day : (t : DateTime) → InRange (withDay 1 t) → InRangeButDay t
-in-range-but-day t v =
-    let d = v .date in
-    record { year-from = d .year-from; year-to = d .year-to; month-from = d .month-from; month-to = d .month-to; hour-to = v .hour-to; minute-to = v .minute-to; second-to = v .second-to }
-
-pub but-day-accepted : (t : DateTime) → InRangeButDay t → checked (withDay 1 t) ≡ accepted tt
-but-day-accepted t h = in-range-accepted (withDay 1 t) (but-day-in-range t h)
-
-pub accepted-but-day : (t : DateTime) → checked (withDay 1 t) ≡ accepted tt → InRangeButDay t
-accepted-but-day t e = in-range-but-day t (accepted-in-range (withDay 1 t) e)

@@ -19,11 +19,12 @@ use Rattle.ds3231.specs.Calls.{sound, step, bus, verdict, storeBy, storeAfter}
 use Rattle.ds3231.specs.declared.Ds3231.{Ds3231}
 use Rattle.ds3231.specs.declared.Event.{Event}
 use Rattle.ds3231.proofs.Sounds.{sound-kept}
-use Rattle.script.specs.Runs.{eventOf, Held, heldAt, answersTo, answerAt, runNumbered, recordOf}
+use Rattle.script.specs.Runs.{eventOf, Held, heldAt, answersTo, answerAt, runNumbered}
 use Rattle.script.specs.declared.ScriptFault.{ScriptFault}
 use Rattle.script.specs.declared.ScriptFault.the-variants.{TooLong, NotWhole, Kind, Value, Padding, Falling}
 use Rattle.script.specs.declared.runs.RunAnswer.{RunAnswer}
 use Rattle.script.specs.declared.runs.RunAnswer.the-variants.{Done, NotSound, StoreLength, AnswersLength, Script}
+use Rattle.script.proofs.Lossless.{faultBack}
 
 module _ (s : List ℕ) (h : Held) where
   pub answers-length : (n : ℕ) → length (answersTo s h n) ≡ n
@@ -73,12 +74,7 @@ runOf (refused n vs) =
     if eqb n 10 then NotSound
     else if eqb n 11 then StoreLength
     else if eqb n 15 then AnswersLength
-    else if eqb n 14 then Script TooLong
-    else if eqb n 13 then Script NotWhole
-    else if eqb n 16 then Script (Kind (recordOf vs))
-    else if eqb n 17 then Script (Value (recordOf vs))
-    else if eqb n 18 then Script (Padding (recordOf vs))
-    else Script (Falling (recordOf vs))
+    else Script (faultBack n vs)
 
 fault-back : (f : ScriptFault) → runOf (runNumbered (Script f)) ≡ Script f
 fault-back TooLong = refl

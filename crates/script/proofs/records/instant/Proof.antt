@@ -1,8 +1,6 @@
 -- `script::records::instant` meets its contract.
 -- Assumes nothing.
-use mathlib.Core.Path.{refl, _∙_}
 use borrow.Author.Needs.{needs}
-use Rattle.script.proofs.Bytes.{instant-of}
 use Rattle.script.proofs.records.instant.Statement.{statement}
 use Rattle.script.proofs.records.instant.Tie as tie
 
@@ -13,7 +11,7 @@ number8-requires : tie.Need-number8-requires
 number8-requires c κs = search needs
 
 returns : tie.Need-returns
-returns c = c .number8 .ensures ∙ instant-of _ _ _ _ refl refl
+returns c = c .number8 .ensures
 
 pub instant-spec : {M : Type 1} → statement M
 instant-spec = tie.close (tie.spec mul-number8 number8-requires returns)

@@ -1,4 +1,4 @@
--- What appending text to a lent slice of bytes leaves, and what it answers.
+-- Need not be believed: what appending text to a lent slice of bytes leaves and answers, the promises of this crate's functions. `listing` of script_listing/src/lib.rt consumes them, and promises an equation with `listingOf`.
 -- Assumes nothing.
 use Prim.Native.Nat.{ℕ, _+_}
 use mathlib.Core.Bool.{Bool}
@@ -19,14 +19,10 @@ pub record Appended (text out : List ℕ) (at : ℕ) (out′ : List ℕ) (r : �
   pub bytes : out′ ≡ appended out at text
   pub next : r ≡ at + length text
 
--- a text that may need `room` bytes: appended where so many are left from `at` on, else the slice and the position stay
+-- a text that may need `room` bytes, as a line needs 48: appended where so many are left from `at` on, else the slice and the position stay
 pub record AppendedIn (room : ℕ) (text out : List ℕ) (at : ℕ) (out′ : List ℕ) (r : ℕ) : Type 0 where
   pub bytes : out′ ≡ (if leb (at + room) (length out) then appended out at text else out)
   pub next : r ≡ (if leb (at + room) (length out) then at + length text else at)
-
--- a line: no line is longer than 48 bytes
-abbrev pub Lined : (line out : List ℕ) (at : ℕ) (out′ : List ℕ) (r : ℕ) → Type 0
-Lined line out at out′ r = AppendedIn 48 line out at out′ r
 
 -- a report's two columns
 abbrev pub columnsText : Line → List ℕ

@@ -8,7 +8,7 @@ ghost use mathlib.Core.Path.{_≡_};
 ghost use lib.Dec.{leb};
 ghost use lib.ListN.{length, take};
 ghost use Rattle.listing.specs.Text.{header as headerText, eventLine, diagnosticLine, diagnosticLines, droppedLine, refusedLine};
-ghost use Rattle.listing.specs.Appended.{Appended, AppendedIn, Lined, recordOf};
+ghost use Rattle.listing.specs.Appended.{Appended, AppendedIn, recordOf};
 use blocks::byte;
 use blocks::columns;
 use blocks::decimal;
@@ -34,7 +34,7 @@ fn has_room(len: usize, at: usize, room: usize) -> bool
 
 // The text's first line.
 pub fn header(out: &mut [u8], at: usize) -> usize
-    ensures { λ r. ⌜ Lined headerText (now (out .entry)) at (now (out .exit)) r ⌝ }
+    ensures { λ r. ⌜ AppendedIn 48 headerText (now (out .entry)) at (now (out .exit)) r ⌝ }
 {
     if !has_room(out.len(), at, LINE) {
         return at;
@@ -44,7 +44,7 @@ pub fn header(out: &mut [u8], at: usize) -> usize
 
 // The line of an event on the bus.
 pub fn event_line(out: &mut [u8], at: usize, instant: u64, kind: u8, value: u8, answer: u8) -> usize
-    ensures { λ r. ⌜ Lined (eventLine instant kind value answer) (now (out .entry)) at (now (out .exit)) r ⌝ }
+    ensures { λ r. ⌜ AppendedIn 48 (eventLine instant kind value answer) (now (out .entry)) at (now (out .exit)) r ⌝ }
 {
     if !has_room(out.len(), at, LINE) {
         return at;
@@ -84,7 +84,7 @@ fn report(out: &mut [u8], at: usize, diagnostic: I2cDiagnostic) -> usize
 
 // The line with the count of dropped reports.
 pub fn dropped_line(out: &mut [u8], at: usize, count: u64) -> usize
-    ensures { λ r. ⌜ Lined (droppedLine count) (now (out .entry)) at (now (out .exit)) r ⌝ }
+    ensures { λ r. ⌜ AppendedIn 48 (droppedLine count) (now (out .entry)) at (now (out .exit)) r ⌝ }
 {
     if !has_room(out.len(), at, LINE) {
         return at;
@@ -104,7 +104,7 @@ fn dropped(out: &mut [u8], at: usize, count: u64) -> usize
 
 // The line of a refusal: its number, and the record that it is about, if there is one.
 pub fn refused_line(out: &mut [u8], at: usize, number: u8, has_record: bool, record: u64) -> usize
-    ensures { λ r. ⌜ Lined (refusedLine number (recordOf «has_record» «record»)) (now (out .entry)) at (now (out .exit)) r ⌝ }
+    ensures { λ r. ⌜ AppendedIn 48 (refusedLine number (recordOf «has_record» «record»)) (now (out .entry)) at (now (out .exit)) r ⌝ }
 {
     if !has_room(out.len(), at, LINE) {
         return at;

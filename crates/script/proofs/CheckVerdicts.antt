@@ -11,8 +11,7 @@ use lib.IntN.{ℤ}
 use lib.ListN.{length}
 use Rattle.refusals.specs.Numbered.{Numbered, accepted, refused, andThen}
 use Rattle.computed.specs.Choice.{if_then_else_}
-use Rattle.script.specs.Records.{instantOf, kindOf, valueOf, padded, faultOf, lastOf, recordFault, recordsIn, checkedLength, checkedFrom, checkedRecords, checkedScript}
-use Rattle.script.specs.Answers.{faultNumbered, checkNumbered, checkedFault, CheckedRecord}
+use Rattle.script.specs.Records.{instantOf, lastOf, recordFault, recordsIn, checkedLength, checkedFrom, checkedRecords, checkedScript, faultNumbered, checkNumbered}
 use Rattle.script.specs.declared.ScriptFault.{ScriptFault}
 use Rattle.script.specs.declared.ScriptFault.the-variants.{TooLong, NotWhole, Kind, Value, Padding, Falling}
 use Rattle.script.specs.declared.CheckAnswer.{CheckAnswer}
@@ -49,21 +48,18 @@ chosen-then : (b : Bool) (x : Numbered (Unit {0})) (n : ℕ) (values : List ℤ)
 chosen-then true x n values = refl
 chosen-then false x n values = refl
 
-first-then : (s : List ℕ) (i m : ℕ) → checkedFrom s i (suc m) ≡ andThen (checkedFault (recordFault s i) i) (checkedFrom s (i + 1) m)
+first-then : (s : List ℕ) (i m : ℕ) → checkedFrom s i (suc m) ≡ andThen (checkedFrom s i 1) (checkedFrom s (i + 1) m)
 unfolding checkedFrom
 first-then s i m = chosen-then (eqb (recordFault s i) 0) _ _ _
 
 module _ (s : List ℕ) (n i last : ℕ) (p : Passed s n i last) where
   -- the answer for record i, then the verdict on those after it
-  record-then : i < n → (r : CheckAnswer) → CheckedRecord s i last r → checkedRecords s ≡ andThen (checkNumbered r) (checkedFrom s (i + 1) (n - (i + 1)))
-  unfolding recordFault
+  record-then : i < n → (r : CheckAnswer) → checkNumbered r ≡ checkedFrom s i 1 → checkedRecords s ≡ andThen (checkNumbered r) (checkedFrom s (i + 1) (n - (i + 1)))
   record-then h r e =
       let k : n - i ≡ suc (n - (i + 1)) = omega arith in
-      let f : faultOf last (instantOf s i) (kindOf s i) (valueOf s i) (padded s i) ≡ recordFault s i = ap (λ (l : ℕ). faultOf l (instantOf s i) (kindOf s i) (valueOf s i) (padded s i)) (p .before) in
-      p .checked ∙ ap (checkedFrom s i) k ∙ first-then s i _
-      ∙ ap (λ (v : Numbered (Unit {0})). andThen v (checkedFrom s (i + 1) (n - (i + 1)))) (sym (e ∙ ap (λ (m : ℕ). checkedFault m i) f))
+      p .checked ∙ ap (checkedFrom s i) k ∙ first-then s i _ ∙ ap (λ (v : Numbered (Unit {0})). andThen v (checkedFrom s (i + 1) (n - (i + 1)))) (sym e)
 
-  module _ (h : i < n) (r : CheckAnswer) (e : CheckedRecord s i last r) where
+  module _ (h : i < n) (r : CheckAnswer) (e : checkNumbered r ≡ checkedFrom s i 1) where
     pub stops : (f : ScriptFault) → r ≡ Refused f → faultNumbered f ≡ checkedRecords s
     stops f q = fault-stands f _ ∙ sym (record-then h (Refused f) (sym (ap checkNumbered q) ∙ e))
 

@@ -1,28 +1,27 @@
 -- The event of a record, by its kind.
 -- Assumes nothing.
 use Prim.Native.Nat.{ℕ, _/_, _%_}
-use mathlib.Core.Path.{_≡_, _∙_}
+use mathlib.Core.List.{List}
+use mathlib.Core.Path.{_≡_}
 use lib.Dec.{eqb}
 use borrow.Author.Tests.{ne-eqb}
 use Rattle.ds3231.specs.declared.Event.the-variants.{Start, Write, Read, Stop}
-use Rattle.script.specs.Runs.{eventBy}
+use Rattle.script.specs.Records.{instantOf, kindOf, valueOf}
+use Rattle.script.specs.Runs.{eventOf}
 
-module _ (kind value at k v t : ℕ) (p : kind ≡ k) (q : value ≡ v) (o : at ≡ t) where
-  same : eventBy kind value at ≡ eventBy k v t
-  same = cc
+module _ (s : List ℕ) (i kind value at : ℕ) (p : kind ≡ kindOf s i) (q : value ≡ valueOf s i) (o : at ≡ instantOf s i) where
+  pub is-start : kind ≡ 0 → Start (value / 2) (eqb (value % 2) 1) at ≡ eventOf s i
+  unfolding eventOf
+  is-start e = rw (← p, ← q, ← o, e)
 
-  pub is-start : kind ≡ 0 → Start (value / 2) (eqb (value % 2) 1) at ≡ eventBy k v t
-  unfolding eventBy
-  is-start e = (rw e) ∙ same
+  pub is-write : kind ≡ 1 → Write value at ≡ eventOf s i
+  unfolding eventOf
+  is-write e = rw (← p, ← q, ← o, e)
 
-  pub is-write : kind ≡ 1 → Write value at ≡ eventBy k v t
-  unfolding eventBy
-  is-write e = (rw e) ∙ same
+  pub is-read : kind ≡ 2 → Read (eqb value 1) at ≡ eventOf s i
+  unfolding eventOf
+  is-read e = rw (← p, ← q, ← o, e)
 
-  pub is-read : kind ≡ 2 → Read (eqb value 1) at ≡ eventBy k v t
-  unfolding eventBy
-  is-read e = (rw e) ∙ same
-
-  pub is-stop : (kind ≡ 0 → ⊥) → (kind ≡ 1 → ⊥) → (kind ≡ 2 → ⊥) → Stop at ≡ eventBy k v t
-  unfolding eventBy
-  is-stop a b c = (rw (ne-eqb kind 0 a, ne-eqb kind 1 b, ne-eqb kind 2 c)) ∙ same
+  pub is-stop : (kind ≡ 0 → ⊥) → (kind ≡ 1 → ⊥) → (kind ≡ 2 → ⊥) → Stop at ≡ eventOf s i
+  unfolding eventOf
+  is-stop a b c = rw (← p, ← q, ← o, ne-eqb kind 0 a, ne-eqb kind 1 b, ne-eqb kind 2 c)

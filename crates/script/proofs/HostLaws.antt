@@ -1,7 +1,7 @@
 -- The host's number of a check and of a run fits in 32 bits.
 -- Assumes nothing.
 use Prim.Native.Nat.{ℕ, zero, suc, _+_, _≤_, _<_, _%_}
-use mathlib.Core.Bool.{Bool, not}
+use mathlib.Core.Bool.{not}
 use mathlib.Core.List.{List}
 use native.Mathlib.Omega.{arith}
 use lib.Dec.{ltb, eqb}
@@ -9,21 +9,16 @@ use lib.ListN.{length}
 use borrow.Author.Tests.{ltb-false}
 use Rattle.refusals.specs.Numbered.{Numbered, andThen}
 use Rattle.computed.proofs.Choice.{chosen}
-use Rattle.script.specs.Records.{recordsIn, instantOf, kindOf, valueOf, padded, badValue, faultOf, lastOf, recordFault, checkedLength, checkedFrom, checkedRecords, checkedScript}
-use Rattle.script.specs.Runs.{checkedRoom, checkedRun, hostNumber}
-use Rattle.script.proofs.RunVerdicts.{run-is}
-
-fault-to : (last at kind value : ℕ) (zeros : Bool) → faultOf last at kind value zeros ≤ 19
-unfolding faultOf
-fault-to last at kind value zeros =
-    chosen (λ x. x ≤ 19) (ltb 3 kind) (λ e. omega arith)
-    (λ e. chosen (λ x. x ≤ 19) (badValue kind value) (λ e. omega arith)
-    (λ e. chosen (λ x. x ≤ 19) (not zeros) (λ e. omega arith)
-    (λ e. chosen (λ x. x ≤ 19) (ltb at last) (λ e. omega arith) (λ e. omega arith))))
+use Rattle.script.specs.Records.{recordsIn, instantOf, kindOf, valueOf, padded, badValue, lastOf, recordFault, checkedLength, checkedFrom, checkedRecords, checkedScript}
+use Rattle.script.specs.Runs.{checkedRun, hostNumber}
 
 record-to : (s : List ℕ) (i : ℕ) → recordFault s i ≤ 19
 unfolding recordFault
-record-to s i = fault-to (lastOf s i) (instantOf s i) (kindOf s i) (valueOf s i) (padded s i)
+record-to s i =
+    chosen (λ x. x ≤ 19) (ltb 3 (kindOf s i)) (λ e. omega arith)
+    (λ e. chosen (λ x. x ≤ 19) (badValue (kindOf s i) (valueOf s i)) (λ e. omega arith)
+    (λ e. chosen (λ x. x ≤ 19) (not (padded s i)) (λ e. omega arith)
+    (λ e. chosen (λ x. x ≤ 19) (ltb (instantOf s i) (lastOf s i)) (λ e. omega arith) (λ e. omega arith))))
 
 abbrev Fits : Numbered (Unit {0}) → Type 0
 Fits v = hostNumber v < 4294967296
@@ -44,7 +39,5 @@ pub check-fits : (s : List ℕ) → Fits (checkedScript s)
 check-fits s = after-length (length s) (checkedRecords s) (λ l. records-fit s (recordsIn s) 0 (omega arith))
 
 pub run-fits : (s : List ℕ) (room : ℕ) → Fits (checkedRun s room)
-unfolding checkedRoom
-run-fits s room =
-    rw run-is
-    (after-length (length s) (checkedRoom s room) (λ l. chosen Fits (eqb room (recordsIn s)) (λ e. records-fit s (recordsIn s) 0 (omega arith)) (λ e. omega arith)))
+unfolding checkedRun
+run-fits s room = after-length (length s) _ (λ l. chosen Fits (eqb room (recordsIn s)) (λ e. records-fit s (recordsIn s) 0 (omega arith)) (λ e. omega arith))

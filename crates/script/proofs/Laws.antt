@@ -24,7 +24,7 @@ both-accepted (refused n values) w e = never e
 
 -- a choice between an answer and a refusal
 module _ (b : Bool) (v : Numbered (Unit {0})) (n : ℕ) (values : List ℤ) where
-  accepted-first : (if b then v else refused n values) ≡ accepted (tt {0}) → (b ≡ true) × (v ≡ accepted (tt {0}))
+  pub accepted-first : (if b then v else refused n values) ≡ accepted (tt {0}) → (b ≡ true) × (v ≡ accepted (tt {0}))
   accepted-first e = by b refl e
     where
       by : (t : Bool) → b ≡ t → (if t then v else refused n values) ≡ accepted (tt {0}) → (b ≡ true) × (v ≡ accepted (tt {0}))

@@ -9,13 +9,13 @@ use Rattle.refusals.specs.Numbered.{Numbered, accepted, refused}
 use Rattle.computed.specs.Choice.{if_then_else_}
 use Rattle.computed.proofs.Lossless.{lossless}
 use Rattle.calendar.proofs.Lossless.{value}
-use Rattle.script.specs.Answers.{checkNumbered}
+use Rattle.script.specs.Records.{checkNumbered}
 use Rattle.script.specs.declared.ScriptFault.{ScriptFault}
 use Rattle.script.specs.declared.ScriptFault.the-variants.{TooLong, NotWhole, Kind, Value, Padding, Falling}
 use Rattle.script.specs.declared.CheckAnswer.{CheckAnswer}
 use Rattle.script.specs.declared.CheckAnswer.the-variants.{Legal, Refused}
 
-abbrev faultBack : ℕ → List ℤ → ScriptFault
+abbrev pub faultBack : ℕ → List ℤ → ScriptFault
 faultBack n vs =
     if eqb n 14 then TooLong
     else if eqb n 13 then NotWhole

@@ -20,7 +20,8 @@ use Rattle.diagnostics.proofs.I2cDiagnostic as D
 use Rattle.diagnostics.proofs.I2cDiagnostic.Laws as D′
 use Rattle.ds3231.specs.declared.Ds3231.{Ds3231}
 use Rattle.ds3231_bus.proofs.Rows.{chip, chip-data}
-use Rattle.script.specs.Runs.{Ran, RanOn}
+use Rattle.script.specs.Runs.{Ran}
+use Rattle.script.specs.ByValue.{RanOnStores}
 use Rattle.script.specs.declared.runs.RunAnswer.{RunAnswer}
 use Rattle.script.specs.declared.runs.RunOutcome.{RunOutcome}
 use Rattle.script.proofs.runs.RunAnswer as N
@@ -78,5 +79,5 @@ chosen : (b : Bool) (x y : List I2cDiagnostic) → (if b then x else y) ≡ cond
 chosen true x y = refl
 chosen false x y = refl
 
-pub shows : Shows chip answer diagnostic outcome 256 RanOn Said
+pub shows : Shows chip answer diagnostic outcome 256 RanOnStores Said
 shows c st s a r a′ rs same on = subst (λ (st′ : List I2cDiagnostic). Said c st s a (r .answer) (r .chip) st′ a′) (chosen (eqb (length st) 256) (r .records) st) (on st refl same)

@@ -1,4 +1,4 @@
--- Laws of the run's definitions: there is an answer for each record, and it is that record's; no event of a run is refused; and the numbered answer of a run loses nothing.
+-- Laws of the run's definitions: there is an answer for each record, and it is that record's; no event of a run is refused; a run keeps a sound chip sound; and the numbered answer of a run loses nothing.
 -- Assumes nothing.
 use Prim.Native.Nat.{ℕ, zero, suc, _+_, _<_}
 use mathlib.Core.Bool.{true}
@@ -19,11 +19,14 @@ use Rattle.ds3231.specs.Calls.{sound, step, bus, verdict, storeBy, storeAfter}
 use Rattle.ds3231.specs.declared.Ds3231.{Ds3231}
 use Rattle.ds3231.specs.declared.Event.{Event}
 use Rattle.ds3231.proofs.Sounds.{sound-kept}
-use Rattle.script.specs.Runs.{eventOf, Held, heldAt, answersTo, answerAt, runNumbered, recordOf}
+use Rattle.script.specs.Records.{recordsIn}
+use Rattle.script.specs.Runs.{eventOf, Held, heldAt, answersTo, answerAt, runNumbered, runVerdict, Ran, clockrunHeld}
 use Rattle.script.specs.declared.ScriptFault.{ScriptFault}
 use Rattle.script.specs.declared.ScriptFault.the-variants.{TooLong, NotWhole, Kind, Value, Padding, Falling}
 use Rattle.script.specs.declared.runs.RunAnswer.{RunAnswer}
 use Rattle.script.specs.declared.runs.RunAnswer.the-variants.{Done, NotSound, StoreLength, AnswersLength, Script}
+use Rattle.script.proofs.Lossless.{faultBack}
+use Rattle.script.proofs.RunVerdicts.{power-on-is-sound}
 
 module _ (s : List ℕ) (h : Held) where
   pub answers-length : (n : ℕ) → length (answersTo s h n) ≡ n
@@ -54,17 +57,32 @@ store-kept e c st = by (verdict (bus st e) c)
     by (accepted u) = stored-all-length (step e c .reports) (c .diagnostics) st
     by (refused n vs) = refl
 
--- a chip that is sound with a store of 256 records: after every record it is, and the event of the next is not refused
-module _ (s : List ℕ) (h : Held) (ok : sound (h .chip) ≡ true) (whole : length (h .store) ≡ 256) where
-  pub stays : (i : ℕ) → (sound (heldAt s h i .chip) ≡ true) × (length (heldAt s h i .store) ≡ 256)
-  unfolding heldAt
-  stays zero = (ok, whole)
-  stays (suc i) =
-      let k = stays i in
-      (sound-kept (bus (heldAt s h i .store) (eventOf s i)) (heldAt s h i .chip) (k .0), store-kept (eventOf s i) (heldAt s h i .chip) (heldAt s h i .store) ∙ k .1)
+-- a sound chip is sound after every record
+pub stays-sound : (s : List ℕ) (h : Held) → sound (h .chip) ≡ true → (i : ℕ) → sound (heldAt s h i .chip) ≡ true
+unfolding heldAt
+stays-sound s h ok zero = ok
+stays-sound s h ok (suc i) = sound-kept (bus (heldAt s h i .store) (eventOf s i)) (heldAt s h i .chip) (stays-sound s h ok i)
 
-  pub none-refused : (i : ℕ) → verdict (bus (heldAt s h i .store) (eventOf s i)) (heldAt s h i .chip) ≡ accepted tt
-  none-refused i = rw (stays i .0, stays i .1)
+stays-whole : (s : List ℕ) (h : Held) → length (h .store) ≡ 256 → (i : ℕ) → length (heldAt s h i .store) ≡ 256
+unfolding heldAt
+stays-whole s h whole zero = whole
+stays-whole s h whole (suc i) = store-kept (eventOf s i) (heldAt s h i .chip) (heldAt s h i .store) ∙ stays-whole s h whole i
+
+-- on a sound chip with a store of 256 records no event is refused
+pub none-refused : (s : List ℕ) (h : Held) → sound (h .chip) ≡ true → length (h .store) ≡ 256 → (i : ℕ) → verdict (bus (heldAt s h i .store) (eventOf s i)) (heldAt s h i .chip) ≡ accepted tt
+none-refused s h ok whole i = rw (stays-sound s h ok i, stays-whole s h whole i)
+
+-- every run keeps a sound chip sound, refused or not: `Ran` is what `run` and `run_values` promise
+pub run-keeps-sound : {h : Held} {s a : List ℕ} {r : RunAnswer} {c′ : Ds3231} {st′ : List I2cDiagnostic} {a′ : List ℕ} → Ran h s a r c′ st′ a′ → sound (h .chip) ≡ true → sound c′ ≡ true
+run-keeps-sound {h} {s} {a} ran ok = rw (ran .chip) (by (runVerdict h s (length a)))
+  where
+    by : (v : Numbered (Unit {0})) → sound (unless v (heldAt s h (recordsIn s) .chip) (h .chip)) ≡ true
+    by (accepted u) = stays-sound s h ok (recordsIn s)
+    by (refused n vs) = ok
+
+-- and what `run_from_power_on` promises: it leaves a sound chip
+pub run-from-power-on-sound : {s a : List ℕ} {r : RunAnswer} {c′ : Ds3231} {st′ : List I2cDiagnostic} {a′ : List ℕ} → Ran clockrunHeld s a r c′ st′ a′ → sound c′ ≡ true
+run-from-power-on-sound ran = run-keeps-sound ran power-on-is-sound
 
 -- the answer that a number stands for
 abbrev runOf : Numbered (Unit {0}) → RunAnswer
@@ -73,12 +91,7 @@ runOf (refused n vs) =
     if eqb n 10 then NotSound
     else if eqb n 11 then StoreLength
     else if eqb n 15 then AnswersLength
-    else if eqb n 14 then Script TooLong
-    else if eqb n 13 then Script NotWhole
-    else if eqb n 16 then Script (Kind (recordOf vs))
-    else if eqb n 17 then Script (Value (recordOf vs))
-    else if eqb n 18 then Script (Padding (recordOf vs))
-    else Script (Falling (recordOf vs))
+    else Script (faultBack n vs)
 
 fault-back : (f : ScriptFault) → runOf (runNumbered (Script f)) ≡ Script f
 fault-back TooLong = refl

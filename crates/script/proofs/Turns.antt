@@ -10,6 +10,7 @@ use borrow.Author.Tests.{lt-ltb, le-ltb}
 use lib.ListN.{length, take, set, length-set}
 use lib.Seq.{take-all, take-suc-set}
 use Rattle.refusals.specs.Numbered.{Numbered, accepted, andThen, unless}
+use Rattle.refusals.proofs.Checks.{accepted-leaves}
 use Rattle.diagnostics.specs.Reports.{storedAll}
 use Rattle.diagnostics.specs.declared.Diagnostics.{Diagnostics}
 use Rattle.diagnostics.specs.declared.I2cDiagnostic.{I2cDiagnostic}
@@ -20,9 +21,10 @@ use Rattle.ds3231.specs.declared.Event.{Event}
 use Rattle.ds3231_step.specs.Answers.{reportsOf, SteppedBy}
 use Rattle.ds3231_step.specs.declared.Stepped.{Stepped}
 use Rattle.script.specs.Records.{recordsIn}
-use Rattle.script.specs.Runs.{Held, heldAt, answersTo, answerAt, answerByte, replyByte, eventOf, RanThrough}
+use Rattle.script.specs.Runs.{Held, heldAt, answersTo, answerAt, answerByte, replyByte, eventOf, runVerdict, Ran}
 use Rattle.script.specs.declared.runs.RunAnswer.the-variants.{Done}
 use Rattle.script.proofs.RunLaws.{none-refused}
+use Rattle.script.proofs.RunVerdicts.{accepted-held}
 
 -- a report is stored in the next free place, and nowhere in a full store
 pub stored-one : (x : I2cDiagnostic) (n : Diagnostics) (rs : List I2cDiagnostic) → n .waiting < 256 → set rs (n .waiting) x ≡ storedAll (x ∷ []) n rs
@@ -46,9 +48,11 @@ pub record Through (h : Held) (s : List ℕ) (n i : ℕ) (c : Ds3231) (rs : List
   pub up : i ≤ n
 
 module _ (h : Held) (s : List ℕ) where
-  pub begins : (n : ℕ) (a : List ℕ) → sound (h .chip) ≡ true → length (h .store) ≡ 256 → length a ≡ n → n ≡ recordsIn s → Through h s n 0 (h .chip) (h .store) a
+  pub begins : (n : ℕ) (a : List ℕ) → runVerdict h s n ≡ accepted tt → length a ≡ n → Through h s n 0 (h .chip) (h .store) a
   unfolding heldAt answersTo
-  begins n a ok w l e = record { chip = refl; store = refl; bytes = refl; ok = ok; full = w; whole = w; room = l; count = e; up = omega arith }
+  begins n a v l =
+      let w = accepted-held h s n v in
+      record { chip = refl; store = refl; bytes = refl; ok = w .2; full = w .0; whole = w .0; room = l; count = w .1; up = omega arith }
 
   -- the chip, the store and the answer of record i, since no event is refused
   module _ (ok : sound (h .chip) ≡ true) (full : length (h .store) ≡ 256) (i : ℕ) where
@@ -88,12 +92,12 @@ module _ (h : Held) (s : List ℕ) where
       } in
       subst (λ (j : ℕ). Through h s n j (p .chip) rs′ (set a i b)) (sym (add-one i)) k
 
-  pub ends : (n i : ℕ) (c : Ds3231) (rs : List I2cDiagnostic) (a : List ℕ) → Through h s n i c rs a → n ≤ i → RanThrough h s (record { chip = c; answer = Done; records = rs }) a
-  ends n i c rs a t l =
+  pub ends : (n i : ℕ) (c : Ds3231) (rs : List I2cDiagnostic) (a a′ : List ℕ) → Through h s n i c rs a′ → n ≤ i → runVerdict h s (length a) ≡ accepted tt → Ran h s a Done c rs a′
+  ends n i c rs a a′ t l v =
       let e : i ≡ recordsIn s = omega (arith, t .count) in
       record {
-        answer = refl;
-        chip = t .chip ∙ ap (λ (j : ℕ). heldAt s h j .chip) e;
-        store = t .store ∙ ap (λ (j : ℕ). heldAt s h j .store) e;
-        bytes = sym (take-all i a (omega arith)) ∙ t .bytes ∙ ap (answersTo s h) e;
+        answers = sym v;
+        chip = t .chip ∙ ap (λ (j : ℕ). heldAt s h j .chip) e ∙ accepted-leaves _ tt _ _ v;
+        store = t .store ∙ ap (λ (j : ℕ). heldAt s h j .store) e ∙ accepted-leaves _ tt _ _ v;
+        bytes = sym (take-all i a′ (omega arith)) ∙ t .bytes ∙ ap (answersTo s h) e ∙ accepted-leaves _ tt _ _ v;
       }

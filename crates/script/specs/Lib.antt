@@ -1,3 +1,3 @@
 pub mod Records
-pub mod Answers
 pub mod Runs
+pub mod ByValue

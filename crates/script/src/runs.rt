@@ -2,10 +2,10 @@
 ghost use mathlib.Core.Path.{_≡_};
 ghost use Prim.Native.Nat.{_≤_, _+_, _*_};
 ghost use lib.ListN.{length};
-ghost use mathlib.Core.Bool.{true};
-ghost use Rattle.ds3231.specs.Calls.{sound};
-ghost use Rattle.script.specs.Records.{recordsIn};
-ghost use Rattle.script.specs.Runs.{eventOf, replyByte, unwritten, runNumbered, checkedRun, verdictOn, checkedRoom, Ran, RanOn, RanFrom, RanThrough, wholeOf};
+ghost use Rattle.refusals.specs.Numbered.{accepted};
+ghost use Rattle.script.specs.Records.{checkedLength};
+ghost use Rattle.script.specs.Runs.{eventOf, replyByte, unwritten, clockrunHeld, runNumbered, checkedRun, runVerdict, Ran};
+ghost use Rattle.script.specs.ByValue.{CheckedOnStores, RanOnStores, wholeOf};
 use crate::CheckAnswer;
 use crate::RECORD;
 use crate::ScriptFault;
@@ -46,7 +46,7 @@ pub struct RunOutcome {
 
 // Runs a script from 2026-01-01T00:00:00, oscillator not stopped, 100 quarters.
 pub fn run_from_power_on(script: &[u8], answers: &mut [u8]) -> RunOutcome
-    ensures { λ r. ⌜ RanFrom (now (script .entry)) (now (answers .entry)) r (now (answers .exit)) ⌝ }
+    ensures { λ r. ⌜ Ran clockrunHeld (now (script .entry)) (now (answers .entry)) (r .answer) (r .chip) (r .records) (now (answers .exit)) ⌝ }
 {
     let start = DateTime {
         year: 2026,
@@ -137,7 +137,7 @@ pub(crate) fn ran(
     script: &[u8],
     answers: &mut [u8],
 ) -> RunOutcome
-    ensures { λ r. ⌜ RanOn chip len records (now (script .entry)) (now (answers .entry)) r (now (answers .exit)) ⌝ }
+    ensures { λ r. ⌜ RanOnStores chip len records (now (script .entry)) (now (answers .entry)) r (now (answers .exit)) ⌝ }
 {
     let verdict = checked(chip, len, script, answers.len());
     match verdict {
@@ -152,7 +152,7 @@ pub(crate) fn ran(
 
 // The first refusal, or `Done` where the run goes through: the chip, the store of `len` records, then the script.
 fn checked(chip: Ds3231, len: usize, script: &[u8], room: usize) -> RunAnswer
-    ensures { λ r. ⌜ runNumbered r ≡ verdictOn chip len (now (script .entry)) room ⌝ }
+    ensures { λ r. ⌜ CheckedOnStores chip len (now (script .entry)) room r ⌝ }
 {
     if !is_sound(chip) {
         return RunAnswer::NotSound;
@@ -173,9 +173,10 @@ fn checked_run(script: &[u8], room: usize) -> RunAnswer
     }
 }
 
-// An answer byte for each record, then the records.
+// The same of a script whose length is legal.
 fn checked_room(script: &[u8], room: usize) -> RunAnswer
-    ensures { λ r. ⌜ runNumbered r ≡ checkedRoom (now (script .entry)) room ⌝ }
+    requires { ⌜ checkedLength (length (now script)) ≡ accepted tt ⌝ }
+    ensures { λ r. ⌜ runNumbered r ≡ checkedRun (now (script .entry)) room ⌝ }
 {
     if room != script.len() / RECORD {
         return RunAnswer::AnswersLength;
@@ -186,15 +187,15 @@ fn checked_room(script: &[u8], room: usize) -> RunAnswer
     }
 }
 
-// Every record's event in turn, on a sound chip.
+// Every record's event in turn, where nothing refuses the run.
 fn events(
     chip: Ds3231,
     mut records: [I2cDiagnostic; 256],
     script: &[u8],
     answers: &mut [u8],
 ) -> RunOutcome
-    requires { ⌜ (length (now answers) ≡ recordsIn (now script)) × (sound chip ≡ true) ⌝ }
-    ensures { λ r. ⌜ RanThrough (record { chip = chip; store = records }) (now (script .entry)) r (now (answers .exit)) ⌝ }
+    requires { ⌜ runVerdict (record { chip = chip; store = records }) (now script) (length (now answers)) ≡ accepted tt ⌝ }
+    ensures { λ r. ⌜ Ran (record { chip = chip; store = records }) (now (script .entry)) (now (answers .entry)) (r .answer) (r .chip) (r .records) (now (answers .exit)) ⌝ }
 {
     let mut chip = chip;
     let n = answers.len();

@@ -7,7 +7,7 @@ use native.Mathlib.Numerals.{add-one}
 use native.Mathlib.Omega.{arith}
 use lib.ListN.{length, getD, length-append}
 use borrow.Author.Tests.{lt-ltb}
-use Rattle.listing.specs.Appended.{Appended, Lined}
+use Rattle.listing.specs.Appended.{Appended, AppendedIn}
 use Rattle.listing.specs.Text.{eventLine}
 use Rattle.listing.proofs.Appending.{nothing, also, within, fitting}
 use Rattle.listing.proofs.Lines.{event-length}
@@ -52,7 +52,7 @@ has-room {s} {a} {out₀} {at} {out} {i} {next} h l t = omega (arith, events-len
 -- a turn: one more line is appended
 pub turn : {s a out₀ : List ℕ} {at : ℕ} {out : List ℕ} {i next : ℕ} {out′ : List ℕ} {next′ : ℕ}
     → a ≡ answersTo s clockrunHeld (recordsIn s) → at + 48 * recordsIn s ≤ length out₀ → i < length a → Listed s a out₀ at out i next → length out′ ≡ length out
-    → (e : Record) → e ≡ recordAt s i → Lined (eventLine (e .at) (e .kind) (e .value) (getD a i 0)) out next out′ next′ → Listed s a out₀ at out′ (i + 1) next′
+    → (e : Record) → e ≡ recordAt s i → AppendedIn 48 (eventLine (e .at) (e .kind) (e .value) (getD a i 0)) out next out′ next′ → Listed s a out₀ at out′ (i + 1) next′
 turn {s} {a} {out₀} {at} {out} {i} {next} {out′} {next′} f h l t same e g line =
     let k : i < recordsIn s = omega (arith, t .count) in
     let b : getD a i 0 ≡ answerAt s clockrunHeld i = ap (λ (x : List ℕ). getD x i 0) f ∙ answers-at s clockrunHeld (recordsIn s) i k in

@@ -9,13 +9,13 @@ use lib.Seq.{length-take-le}
 use borrow.Author.Tests.{eq-eqb}
 use Rattle.refusals.specs.Numbered.{accepted}
 use Rattle.refusals.proofs.Checks.{accepted-leaves}
-use Rattle.script.specs.Answers.{faultNumbered}
-use Rattle.script.specs.Records.{recordsIn, checkedScript}
-use Rattle.script.specs.Runs.{heldAt, answersTo, clockrunHeld, checkedRoom, checkedRun, RanFrom}
+use Rattle.script.specs.Records.{recordsIn, checkedScript, faultNumbered}
+use Rattle.script.specs.Runs.{heldAt, answersTo, clockrunHeld, checkedRun, runVerdict, Ran}
 use Rattle.script.specs.declared.runs.RunOutcome.{RunOutcome}
 use Rattle.script.specs.declared.ScriptFault.{ScriptFault}
 use Rattle.script.specs.declared.ScriptFault.the-variants.{TooLong, NotWhole, Kind, Value, Padding, Falling}
 use Rattle.script.proofs.Laws.{accepted-legal}
+use Rattle.script.proofs.RunVerdicts.{power-on-verdict}
 use Rattle.script_listing.specs.Listing.{listingBy}
 
 -- a legal script has at most 2,048 records
@@ -26,9 +26,9 @@ at-most s e = omega (arith, accepted-legal s e .short)
 pub part-length : (s : List ℕ) → checkedScript s ≡ accepted tt → length {A = ℕ} (take (recordsIn s) (replicate 2048 0)) ≡ recordsIn s
 part-length s e = length-take-le (recordsIn s) (replicate 2048 0) (at-most s e)
 
-run-accepted : (s : List ℕ) (room : ℕ) → checkedScript s ≡ accepted tt → room ≡ recordsIn s → checkedRun s room ≡ accepted tt
-unfolding checkedRun checkedRoom
-run-accepted s room e l = rw (eq-eqb room (recordsIn s) l) e
+run-accepted : (s : List ℕ) (room : ℕ) → checkedScript s ≡ accepted tt → room ≡ recordsIn s → runVerdict clockrunHeld s room ≡ accepted tt
+unfolding checkedRun
+run-accepted s room e l = rw (power-on-verdict, eq-eqb room (recordsIn s) l) e
 
 -- what a run that goes through leaves
 pub record Left (s : List ℕ) (r : RunOutcome) (a : List ℕ) : Type 0 where
@@ -36,7 +36,7 @@ pub record Left (s : List ℕ) (r : RunOutcome) (a : List ℕ) : Type 0 where
   pub store : heldAt s clockrunHeld (recordsIn s) .store ≡ r .records
   pub bytes : a ≡ answersTo s clockrunHeld (recordsIn s)
 
-pub leaves : {s a : List ℕ} {r : RunOutcome} {a′ : List ℕ} → checkedScript s ≡ accepted tt → length a ≡ recordsIn s → RanFrom s a r a′ → Left s r a′
+pub leaves : {s a : List ℕ} {r : RunOutcome} {a′ : List ℕ} → checkedScript s ≡ accepted tt → length a ≡ recordsIn s → Ran clockrunHeld s a (r .answer) (r .chip) (r .records) a′ → Left s r a′
 leaves {s} {a} {r} {a′} e l t =
     let g = run-accepted s (length a) e l in
     record {

@@ -1,20 +1,21 @@
 -- The whole text of a script that ran, from its parts, where there is room for every line.
 -- Assumes nothing.
 use Prim.Native.Nat.{ℕ, _+_, _*_, _≤_, _<_, min}
-use mathlib.Core.List.{List, []}
+use mathlib.Core.List.{List, [], _++_}
 use mathlib.Core.Path.{_≡_, sym, ap, _∙_, subst}
-use native.Mathlib.Nat.{min-le-right}
+use native.Mathlib.Nat.{zero-add, min-le-right}
 use native.Mathlib.Omega.{arith}
-use lib.ListN.{length, take, length-take}
+use lib.Dec.{leb}
+use lib.ListN.{length, take, drop, length-take}
 use borrow.Author.Tests.{le-leb, lt-leb}
 use Rattle.diagnostics.specs.declared.I2cDiagnostic.{I2cDiagnostic}
 use Rattle.refusals.specs.Numbered.{Numbered, accepted}
-use Rattle.listing.specs.Appended.{Appended, AppendedIn, Lined}
+use Rattle.computed.specs.Choice.{if_then_else_}
+use Rattle.listing.specs.Appended.{appended, Appended, AppendedIn}
 use Rattle.listing.specs.Text.{header, diagnosticLines, droppedLine}
 use Rattle.listing.proofs.Appending.{also, fitting}
 use Rattle.listing.proofs.Lines.{header-length, lines-length}
-use Rattle.script.specs.Records.{recordsIn, checkedScript}
-use Rattle.script.specs.Answers.{faultNumbered}
+use Rattle.script.specs.Records.{recordsIn, checkedScript, faultNumbered}
 use Rattle.script.specs.declared.ScriptFault.{ScriptFault}
 use Rattle.script.specs.declared.runs.RunOutcome.{RunOutcome}
 use Rattle.script_listing.specs.Listing.{eventLines, ranListing, listingBy, listingOf}
@@ -22,7 +23,7 @@ use Rattle.script_listing.proofs.Events.{events-length}
 use Rattle.script_listing.proofs.Legal.{at-most, Left, fault-listed}
 
 -- the header leaves room for the events
-pub after-header : (s : List ℕ) {out out₁ : List ℕ} {r₁ : ℕ} → checkedScript s ≡ accepted tt → 110688 ≤ length out → length out₁ ≡ length out → Lined header out 0 out₁ r₁ → r₁ + 48 * recordsIn s ≤ length out₁
+pub after-header : (s : List ℕ) {out out₁ : List ℕ} {r₁ : ℕ} → checkedScript s ≡ accepted tt → 110688 ≤ length out → length out₁ ≡ length out → AppendedIn 48 header out 0 out₁ r₁ → r₁ + 48 * recordsIn s ≤ length out₁
 after-header s e h k a = let f = fitting {room = 48} {at = 0} {text = header} (omega arith) a in omega (arith, at-most s e, f .next, header-length)
 
 -- the records that wait have at most 256 lines
@@ -32,10 +33,10 @@ waiting-length w ds l = omega (arith, lines-length (take w ds), length-take w ds
 module _ {s a : List ℕ} {e : RunOutcome} {out out₁ out₂ out₃ out₄ : List ℕ} {r₁ r₂ r₃ r₄ : ℕ} where
   pub whole : checkedScript s ≡ accepted tt → Left s e a → length (e .records) ≡ 256 → 110688 ≤ length out
       → length out₁ ≡ length out → length out₂ ≡ length out → length out₃ ≡ length out
-      → Lined header out 0 out₁ r₁
+      → AppendedIn 48 header out 0 out₁ r₁
       → Appended (eventLines s (recordsIn s)) out₁ r₁ out₂ r₂
       → AppendedIn (48 * min (e .chip .diagnostics .waiting) 256) (diagnosticLines (take (e .chip .diagnostics .waiting) (e .records))) out₂ r₂ out₃ r₃
-      → Lined (droppedLine (e .chip .diagnostics .dropped)) out₃ r₃ out₄ r₄
+      → AppendedIn 48 (droppedLine (e .chip .diagnostics .dropped)) out₃ r₃ out₄ r₄
       → Appended (ranListing s) out 0 out₄ r₄
   whole legal left l h k₁ k₂ k₃ first events waiting last =
       let n = at-most s legal in
@@ -50,15 +51,20 @@ module _ {s a : List ℕ} {e : RunOutcome} {out out₁ out₂ out₃ out₄ : Li
 
 -- ---- the listing, by the room and the verdict
 
-pub no-room : (s out : List ℕ) → length out < 110688 → AppendedIn 110688 (listingOf s) out 0 out 0
-no-room s out h = let e = lt-leb 110688 (length out) h in record { bytes = rw e; next = rw e }
+-- what `listing` promises of a text
+abbrev Printed : (text out out′ : List ℕ) (r : ℕ) → Type 0
+Printed text out out′ r = (r ≡ (if leb 110688 (length out) then length text else 0)) × (out′ ≡ (if leb 110688 (length out) then text ++ drop (length text) out else out))
 
-roomy : {text out out′ : List ℕ} {r : ℕ} → 110688 ≤ length out → Appended text out 0 out′ r → AppendedIn 110688 text out 0 out′ r
-roomy {text} {out} h a = let e = le-leb 110688 (length out) h in record { bytes = rw e (a .bytes); next = rw e (a .next) }
+pub no-room : (s out : List ℕ) → length out < 110688 → Printed (listingOf s) out out 0
+no-room s out h = let e = lt-leb 110688 (length out) h in (rw e, rw e)
+
+roomy : {text out out′ : List ℕ} {r : ℕ} → 110688 ≤ length out → Appended text out 0 out′ r → Printed text out out′ r
+unfolding appended
+roomy {text} {out} h a = let e = le-leb 110688 (length out) h in (rw e (a .next ∙ zero-add _), rw e (a .bytes ∙ ap (λ (n : ℕ). text ++ drop n out) (zero-add (length text))))
 
 module _ (s : List ℕ) {out out′ : List ℕ} {r : ℕ} where
-  pub when-legal : 110688 ≤ length out → checkedScript s ≡ accepted tt → Appended (ranListing s) out 0 out′ r → AppendedIn 110688 (listingOf s) out 0 out′ r
+  pub when-legal : 110688 ≤ length out → checkedScript s ≡ accepted tt → Appended (ranListing s) out 0 out′ r → Printed (listingOf s) out out′ r
   when-legal h e a = roomy h (subst (λ (t : List ℕ). Appended t out 0 out′ r) (sym (ap (λ (v : Numbered (Unit {0})). listingBy v s) e)) a)
 
-  pub when-refused : (f : ScriptFault) → 110688 ≤ length out → checkedScript s ≡ faultNumbered f → Appended (listingBy (faultNumbered f) []) out 0 out′ r → AppendedIn 110688 (listingOf s) out 0 out′ r
+  pub when-refused : (f : ScriptFault) → 110688 ≤ length out → checkedScript s ≡ faultNumbered f → Appended (listingBy (faultNumbered f) []) out 0 out′ r → Printed (listingOf s) out out′ r
   when-refused f h e a = roomy h (subst (λ (t : List ℕ). Appended t out 0 out′ r) (fault-listed f s ∙ sym (ap (λ (v : Numbered (Unit {0})). listingBy v s) e)) a)

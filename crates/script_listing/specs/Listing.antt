@@ -2,12 +2,12 @@
 -- Assumes nothing.
 use Prim.Native.Nat.{ℕ, zero, suc}
 use mathlib.Core.List.{List, [], _∷_, _++_}
-use lib.IntN.{ℤ}
+use lib.IntN.{ℤ, natAbs}
 use lib.ListN.{take}
 use Rattle.refusals.specs.Numbered.{Numbered, accepted, refused}
 use Rattle.listing.specs.Text.{header, eventLine, diagnosticLines, droppedLine, refusedLine}
 use Rattle.script.specs.Records.{instantOf, kindOf, valueOf, recordsIn, checkedScript}
-use Rattle.script.specs.Runs.{Held, heldAt, answerAt, clockrunHeld, naturalOf}
+use Rattle.script.specs.Runs.{Held, heldAt, answerAt, clockrunHeld}
 
 -- the lines of the first n events: the answer of record i is the one on the chip after the first i records
 unfoldable pub eventLines : List ℕ → ℕ → List ℕ
@@ -25,7 +25,7 @@ ranListing s = header ++ eventLines s (recordsIn s) ++ diagnosticsText (heldAt s
 -- the record that a refusal names
 abbrev pub recordsNamed : List ℤ → List ℕ
 recordsNamed [] = []
-recordsNamed (i ∷ is) = naturalOf i ∷ []
+recordsNamed (i ∷ is) = natAbs i ∷ []
 
 -- by the verdict: a refused script prints its refusal alone
 abbrev pub listingBy : Numbered (Unit {0}) → List ℕ → List ℕ

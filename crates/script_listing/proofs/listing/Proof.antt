@@ -1,7 +1,7 @@
 -- `script_listing::listing` meets its contract.
 -- Assumes nothing.
 use mathlib.Core.Path.{sym, ap, _∙_}
-use Rattle.script.specs.Answers.{checkNumbered}
+use Rattle.script.specs.Records.{checkNumbered}
 use Rattle.script_listing.proofs.Whole.{no-room, when-legal, when-refused}
 use borrow.Author.Needs.{needs}
 use Rattle.script_listing.proofs.listing.Statement.{statement}

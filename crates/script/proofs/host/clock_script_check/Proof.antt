@@ -1,7 +1,7 @@
 -- `script::host::clock_script_check` meets its contract.
 -- Assumes nothing.
 use mathlib.Core.Path.{sym, ap, _∙_}
-use Rattle.script.specs.Answers.{checkNumbered}
+use Rattle.script.specs.Records.{checkNumbered}
 use Rattle.script.specs.Runs.{hostNumber}
 use Rattle.script.proofs.HostLaws.{check-fits}
 use borrow.Author.Needs.{needs}

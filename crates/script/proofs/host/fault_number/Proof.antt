@@ -2,7 +2,7 @@
 -- Assumes nothing.
 use mathlib.Core.Path.{_≡_, subst}
 use Prim.Native.Nat.{_<_}
-use Rattle.script.specs.Answers.{faultNumbered}
+use Rattle.script.specs.Records.{faultNumbered}
 use Rattle.script.specs.Runs.{hostNumber}
 use Rattle.script.specs.declared.ScriptFault.{ScriptFault}
 use borrow.Author.Needs.{needs}

@@ -1,7 +1,7 @@
 -- `script::runs::checked` meets its contract.
 -- Assumes nothing.
 use borrow.Author.Tests.{eq-eqb, ne-eqb}
-use Rattle.script.specs.Runs.{verdictOn}
+use Rattle.script.specs.Runs.{runVerdict}
 use borrow.Author.Needs.{needs}
 use Rattle.script.proofs.runs.checked.Statement.{statement}
 use Rattle.script.proofs.runs.checked.Tie as tie
@@ -10,19 +10,19 @@ is-sound-requires : tie.Need-is-sound-requires
 is-sound-requires c κs = search needs
 
 returns : tie.Need-returns
-unfolding verdictOn
-returns c = rw (← (c .before .is-sound .ensures), c .if1 .taken)
+unfolding runVerdict
+returns c = λ st l. rw (← (c .before .is-sound .ensures), c .if1 .taken)
 
 returns-2 : tie.Need-returns-2
-unfolding verdictOn
-returns-2 c = rw (← (c .before .before .is-sound .ensures), c .before .if1 .left, ne-eqb _ _ (c .if2 .taken))
+unfolding runVerdict
+returns-2 c = λ st l. rw (← (c .before .before .is-sound .ensures), c .before .if1 .left, l, ne-eqb _ _ (c .if2 .taken))
 
 checked-run-requires : tie.Need-checked-run-requires
 checked-run-requires c κs = search needs
 
 returns-3 : tie.Need-returns-3
-unfolding verdictOn
-returns-3 c = rw (← (c .before .before .before .is-sound .ensures), c .before .before .if1 .left, eq-eqb _ _ (c .before .if2 .left)) (c .checked-run .ensures)
+unfolding runVerdict
+returns-3 c = λ st l. rw (← (c .before .before .before .is-sound .ensures), c .before .before .if1 .left, l, eq-eqb _ _ (c .before .if2 .left)) (c .checked-run .ensures)
 
 pub checked-spec : {M : Type 1} → statement M
 checked-spec =

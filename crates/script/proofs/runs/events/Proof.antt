@@ -21,9 +21,7 @@ abbrev μ-loop : tie.MeasureT-loop
 μ-loop script answers₀ records₀ chip₀ n i₀ answers records chip i = n - i
 
 loop-holds : tie.Need-loop-holds Inv-loop μ-loop
-loop-holds c =
-    let p = c .before .before .pre in
-    begins _ _ _ _ (p .1) (search needs) refl (p .0)
+loop-holds c = begins _ _ _ _ (c .before .before .pre) refl
 
 bus-event-requires : tie.Need-bus-event-requires Inv-loop μ-loop
 bus-event-requires c κs = let t = c .before .before .loop .inv in omega arith
@@ -75,7 +73,7 @@ same-length : tie.Need-same-length Inv-loop μ-loop
 same-length c = c .before .loop .inv .room
 
 returns : tie.Need-returns Inv-loop μ-loop
-returns c = ends _ _ _ _ _ _ _ (c .before .loop .inv) (omega arith)
+returns c = ends _ _ _ _ _ _ _ _ (c .before .loop .inv) (omega arith) (c .before .before .before .before .pre)
 
 pub events-spec : {M : Type 1} → statement M
 events-spec =

@@ -23,8 +23,7 @@ same-length c = search needs
 returns : tie.Need-returns
 returns c =
     let r = c .before .before in
-    runs-from _ _ _ _ (powers-on _ (r .before .before .before .before .power-on .ensures))
-    (ap (λ (d : I2cDiagnostic). replicate 256 d) (r .before .before .unwritten .ensures)) _ _ (r .run-values .ensures)
+    runs-from (powers-on _ (r .before .before .before .before .power-on .ensures)) (ap (λ (d : I2cDiagnostic). replicate 256 d) (r .before .before .unwritten .ensures)) (r .run-values .ensures)
 
 pub run-from-power-on-spec : {M : Type 1} → statement M
 run-from-power-on-spec =

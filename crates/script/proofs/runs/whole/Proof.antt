@@ -2,7 +2,7 @@
 use mathlib.Core.Path.{sym, ap}
 use mathlib.Core.Bool.{Bool, cond}
 use borrow.Author.Tests.{eq-eqb, ne-eqb}
-use Rattle.script.specs.Runs.{wholeOf}
+use Rattle.script.specs.ByValue.{wholeOf}
 use Rattle.script.proofs.runs.whole.Statement.{statement}
 use Rattle.script.proofs.runs.whole.Tie as tie
 

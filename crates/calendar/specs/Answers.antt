@@ -1,8 +1,5 @@
--- 'Where to use each form': the number and the values of each public call's answer, by the cases of its enum.
--- Assumes nothing.
-use Prim.Native.Nat.{ℕ}
-use mathlib.Core.List.{[], _∷_}
-use lib.IntN.{pos}
+-- 'Where to use each form': the number and the values of each public call's answer, by the cases of its enum. Assumes nothing.
+use Rattle.computed.specs.Prelude.{ℕ, [], _∷_, pos}
 use Rattle.refusals.specs.Numbered.{Numbered, accepted, refused}
 use Rattle.calendar.specs.declared.DateTime.{DateTime}
 use Rattle.calendar.specs.declared.DateTimeError.{DateTimeError}

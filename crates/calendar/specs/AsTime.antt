@@ -1,5 +1,4 @@
--- A `DateTime` of the source and the calendar's time, field by field.
--- Assumes nothing.
+-- A `DateTime` of the source and the calendar's time, field by field. Assumes nothing.
 use Prim.Native.Nat.{ℕ}
 use Rattle.gregorian.specs.Times.{Time}
 use Rattle.calendar.specs.declared.DateTime.{DateTime}

@@ -1,5 +1,4 @@
--- Need not be believed: `number` (proofs/Hinnant.antt) equates these formulas of the code (Howard Hinnant's), on a year that starts in March, with `dayNumber`. Only private contracts cite them.
--- Assumes nothing.
+-- Need not be believed: `number` (proofs/Hinnant.antt) equates these formulas of the code (Howard Hinnant's), on a year that starts in March, with `dayNumber`. Only private contracts cite them. Assumes nothing.
 use Prim.Native.Nat.{ℕ, _+_, _-_, _*_, _/_}
 
 -- the days from 0000-03-01 to the start of the March year y

@@ -1,5 +1,4 @@
--- The choice by a test, for definitions.
--- Assumes nothing.
+-- The choice by a test, for definitions. Assumes nothing.
 use mathlib.Core.Bool.{Bool, true, false}
 
 infixr 3 if_then_else_

@@ -1,14 +1,7 @@
--- Need not be believed: what the functions by value promise below the calls that are lent a store. `writes` and `leaves` of proofs/Stores.antt turn it into what those calls promise.
--- Assumes nothing.
-use Prim.Native.Nat.{ℕ, _<_}
-use mathlib.Core.Bool.{Bool, true}
-use mathlib.Core.List.{List}
-use mathlib.Core.Path.{_≡_}
-use lib.ListN.{length, set}
-use Rattle.computed.specs.Choice.{if_then_else_}
+-- Need not be believed: what the functions by value promise below the calls that are lent a store. `writes` and `leaves` of proofs/Stores.antt turn it into what those calls promise. Assumes nothing.
+use Rattle.computed.specs.Prelude.{ℕ, _<_, Bool, true, List, _≡_, length, set, if_then_else_}
 use Rattle.diagnostics.specs.Lent.{ReportedTo}
-use Rattle.diagnostics.specs.declared.I2cDiagnostic.{I2cDiagnostic}
-use Rattle.diagnostics.specs.declared.Diagnostics.{Diagnostics}
+use Rattle.diagnostics.specs.Reports.{I2cDiagnostic, Diagnostics}
 use Rattle.diagnostics.specs.declared.ReportOutcome.{ReportOutcome}
 
 -- the store after a record is written, if one is

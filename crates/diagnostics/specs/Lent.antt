@@ -1,15 +1,7 @@
--- A report into a lent store, in document 01's numbers: what `report` promises.
--- Assumes nothing.
-use mathlib.Core.Bool.{not}
-use mathlib.Core.List.{List, []}
-use mathlib.Core.Path.{_≡_}
-use lib.Dec.{ltb, eqb}
-use lib.ListN.{length}
+-- A report into a lent store, in document 01's numbers: what `report` promises. Assumes nothing.
+use Rattle.computed.specs.Prelude.{not, List, [], _≡_, ltb, eqb, length, if_then_else_}
 use Rattle.refusals.specs.Numbered.{Numbered, accepted, refused, unless}
-use Rattle.computed.specs.Choice.{if_then_else_}
-use Rattle.diagnostics.specs.Reports.{counted, stored}
-use Rattle.diagnostics.specs.declared.I2cDiagnostic.{I2cDiagnostic}
-use Rattle.diagnostics.specs.declared.Diagnostics.{Diagnostics}
+use Rattle.diagnostics.specs.Reports.{counted, stored, I2cDiagnostic, Diagnostics}
 use Rattle.diagnostics.specs.declared.ReportAnswer.{ReportAnswer}
 use Rattle.diagnostics.specs.declared.ReportAnswer.the-variants.{Done, NotSound, StoreLength}
 
@@ -18,7 +10,7 @@ reportNumbered Done = accepted tt
 reportNumbered NotSound = refused 10 []
 reportNumbered StoreLength = refused 11 []
 
--- the verdict: refusal 10 where more than 256 wait, then 11
+-- 'The table of refusals': 10 where more than 256 wait, then 11
 abbrev pub reportVerdict : Diagnostics → List I2cDiagnostic → Numbered (Unit {0})
 reportVerdict n s =
     if ltb 256 (n .waiting) then refused 10 []

@@ -1,17 +1,12 @@
--- What a diagnostic says in document 01's words, and what reports do to the store and to the counts.
--- Assumes nothing.
-use Prim.Native.Nat.{ℕ, _+_, min}
-use mathlib.Core.List.{List, [], _∷_}
-use lib.Dec.{ltb}
-use lib.ListN.{set}
-use Rattle.computed.specs.Choice.{if_then_else_}
+-- What a diagnostic says in document 01's words, and what reports do to the store and to the counts. Assumes nothing.
+use Rattle.computed.specs.Prelude.{ℕ, _+_, min, List, [], _∷_, ltb, set, if_then_else_}
 use Rattle.diagnostics.specs.declared.ChipName.the-variants.{Ds3231}
-use Rattle.diagnostics.specs.declared.I2cDiagnosticKind.{I2cDiagnosticKind}
-use Rattle.diagnostics.specs.declared.I2cDiagnosticKind.the-variants.{NotModelled, ReadOnly, NoSuchRegister, Undefined}
-use Rattle.diagnostics.specs.declared.I2cDiagnostic.{I2cDiagnostic}
-use Rattle.diagnostics.specs.declared.Diagnostics.{Diagnostics}
+pub use Rattle.diagnostics.specs.declared.I2cDiagnosticKind.{I2cDiagnosticKind}
+pub use Rattle.diagnostics.specs.declared.I2cDiagnosticKind.the-variants.{NotModelled, ReadOnly, NoSuchRegister, Undefined}
+pub use Rattle.diagnostics.specs.declared.I2cDiagnostic.{I2cDiagnostic}
+pub use Rattle.diagnostics.specs.declared.Diagnostics.{Diagnostics}
 
--- document 01's words for the kinds
+-- 'Diagnostics': the words for the kinds
 pub data Word : Type 0 where
   UNDEFINED : Word
   READONLY : Word
@@ -29,6 +24,7 @@ pub record Line : Type 0 where
   pub register : Column
   pub byte : Column
 
+-- 'Diagnostics': UNDEFINED (register, byte), READONLY (register), NOREGISTER (pointer byte), NOTMODELLED (control byte). 'Script answers': the register of NOTMODELLED is 0E
 abbrev pub lineOf : I2cDiagnosticKind → Line
 lineOf (Undefined r b) = record { word = UNDEFINED; register = number r; byte = number b }
 lineOf (ReadOnly r) = record { word = READONLY; register = number r; byte = none }
@@ -39,14 +35,14 @@ lineOf (NotModelled b) = record { word = NOTMODELLED; register = number 0x0E; by
 abbrev pub report : ℕ → I2cDiagnosticKind → I2cDiagnostic
 report t kind = record { at = t; chip = Ds3231; kind = kind }
 
--- the counts after a report: one more waits while fewer than 256 do, else one more is dropped, up to the largest number of 64 bits
+-- 'Diagnostics': the store keeps 256 records; a report to a full store is counted as dropped. One more waits while fewer than 256 do, else one more is dropped, up to the largest number of 64 bits
 abbrev pub counted : Diagnostics → Diagnostics
 counted n = record {
   waiting = if ltb (n .waiting) 256 then n .waiting + 1 else n .waiting;
   dropped = if ltb (n .waiting) 256 then n .dropped else min (n .dropped + 1) 0xFFFF_FFFF_FFFF_FFFF;
 }
 
--- the store after a report: it stands in the next free place of 256, or nowhere
+-- 'Diagnostics': oldest first. A report stands in the next free place of 256, or nowhere
 abbrev pub stored : Diagnostics → I2cDiagnostic → List I2cDiagnostic → List I2cDiagnostic
 stored n d s = if ltb (n .waiting) 256 then set s (n .waiting) d else s
 

@@ -14,8 +14,9 @@ use Rattle.calendar.specs.declared.DateTime.{DateTime}
 use Rattle.fields.specs.Table.{Meaning, undefined, sets, meaning}
 use Rattle.fields.proofs.Laws.{Bounds, in-field, field-bounds}
 use Rattle.ds3231.specs.Numbers.{range, day}
-use Rattle.ds3231.specs.Clock.{secondsAt, weekdayAt, offsetFor}
-use Rattle.ds3231.specs.Timing.{changedTime, changedWeekday, noted}
+use Rattle.ds3231.specs.Clock.{secondsAt, weekdayAt}
+use Rattle.ds3231.specs.Changed.{offsetFor, changedTime, changedWeekday}
+use Rattle.ds3231.specs.Timing.{noted}
 use Rattle.ds3231.specs.declared.Clock.{Clock}
 use Rattle.ds3231.specs.declared.PendingTime.{PendingTime}
 use Rattle.ds3231.proofs.Facts.{TimeIn, PendingIn}

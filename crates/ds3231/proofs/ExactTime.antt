@@ -16,7 +16,8 @@ use Rattle.computed.proofs.Choice.{chosen}
 use Rattle.calendar.specs.Stated.{InRange, checked, secondsOf}
 use Rattle.calendar.proofs.Laws.{accepted-in-range, time-in-range, seconds-of-time, weekday-formula}
 use Rattle.diagnostics.specs.declared.I2cDiagnostic.{I2cDiagnostic}
-use Rattle.ds3231.specs.Clock.{secondsAt, timeAt, offsetFor}
+use Rattle.ds3231.specs.Clock.{secondsAt, timeAt}
+use Rattle.ds3231.specs.Changed.{offsetFor}
 use Rattle.ds3231.specs.Timing.{shownAt, latch, pointed, inPhase}
 use Rattle.ds3231.specs.Registers.{otherByte}
 use Rattle.ds3231.specs.Calls.{inQuarters, sound, timingOn, chipOn, checkedQuarters, powerOn, registerAnswer, written, hasRead, step, stepChip, replied, Call, bus, taking, lentStore, tooShort, verdict, chipBy, chipAfter, answeredBy, answer}

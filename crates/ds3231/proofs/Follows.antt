@@ -15,8 +15,9 @@ use Rattle.calendar.proofs.Laws.{nearest-same, nearest-past}
 use Rattle.calendar.specs.declared.DateTime.{DateTime}
 use Rattle.fields.specs.Table.{Meaning, undefined, sets, meaning, timeBytes}
 use Rattle.ds3231.specs.Numbers.{nanos, range, day}
-use Rattle.ds3231.specs.Clock.{secondsAt, timeAt, weekdayAt, secondStart, offsetFor}
-use Rattle.ds3231.specs.Timing.{isDefined, changedTime, changedWeekday, changedMode, setsSeconds, opened, noted, clockFrom, latch, inPhase, pointed, commit, accept, nextPointer, phaseFor}
+use Rattle.ds3231.specs.Clock.{secondsAt, timeAt, weekdayAt, secondStart}
+use Rattle.ds3231.specs.Changed.{offsetFor, changedTime, changedWeekday, changedMode, nextPointer, phaseFor}
+use Rattle.ds3231.specs.Timing.{isDefined, setsSeconds, opened, noted, clockFrom, latch, inPhase, pointed, commit, accept}
 use Rattle.ds3231.specs.Calls.{written, hasRead, step}
 use Rattle.ds3231.specs.Exact.{instant}
 use Rattle.ds3231.specs.declared.Ds3231.{Ds3231}
@@ -60,15 +61,15 @@ module _ (k : Clock) (m : Model) (last : ℕ) (w : FollowsClock k m last) (t : �
 
 -- ---- what one byte makes, on both sides
 
-date-same : (m : Meaning) (d : DateTime) → dateWith m d ≡ changedTime m d
+pub date-same : (m : Meaning) (d : DateTime) → dateWith m d ≡ changedTime m d
 date-same undefined d = refl
 date-same (sets r n flag) d = refl
 
-weekday-same : (m : Meaning) (w : ℕ) → weekdayWith m w ≡ changedWeekday m w
+pub weekday-same : (m : Meaning) (w : ℕ) → weekdayWith m w ≡ changedWeekday m w
 weekday-same undefined w = refl
 weekday-same (sets r n flag) w = refl
 
-mode-same : (m : Meaning) (x : Bool) → modeWith m x ≡ changedMode m x
+pub mode-same : (m : Meaning) (x : Bool) → modeWith m x ≡ changedMode m x
 mode-same undefined x = refl
 mode-same (sets r n flag) x = refl
 
@@ -86,7 +87,7 @@ seconds-same (sets r n flag) t k first i = by (eqb r 0)
     by false = refl
 
 -- a day past the month's end
-clamp-same : (t : DateTime) → TimeIn t → nearest t ≡ clamped t
+pub clamp-same : (t : DateTime) → TimeIn t → nearest t ≡ clamped t
 clamp-same t h = by (ltb (monthLength (t .year) (t .month)) (t .day)) refl
   where
     by : (e : Bool) → ltb (monthLength (t .year) (t .month)) (t .day) ≡ e → nearest t ≡ (if e then withDay (monthLength (t .year) (t .month)) t else t)

@@ -17,7 +17,8 @@ use Rattle.fields.specs.Table.{Meaning, meaning}
 use Rattle.diagnostics.proofs.Counts.{counted-all-in}
 use Rattle.ds3231.specs.Numbers.{range}
 use Rattle.ds3231.specs.Clock.{secondsAt}
-use Rattle.ds3231.specs.Timing.{isDefined, opened, noted, commit, accept, nextPointer}
+use Rattle.ds3231.specs.Timing.{isDefined, opened, noted, commit, accept}
+use Rattle.ds3231.specs.Changed.{nextPointer}
 use Rattle.ds3231.specs.Registers.{registersWritten}
 use Rattle.ds3231.specs.Calls.{inQuarters, sound, chipOn, Step, written, hasRead, step, stepChip, Call, bus, taking, chipBy, verdict, chipAfter, registerByte, registerAnswer}
 use Rattle.ds3231.specs.Total.{chipAfterAll}

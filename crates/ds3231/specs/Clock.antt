@@ -1,12 +1,12 @@
--- The running clock: the time, the weekday and the second that it shows at an instant, and how it is set.
--- Assumes nothing.
+-- The running clock: the time, the weekday and the second that it shows at an instant, and how it is set. Assumes nothing.
 use Prim.Native.Nat.{ℕ, _+_, _-_, _/_, _%_}
 use Rattle.calendar.specs.Stated.{timeOf, secondsOf, dayNumber}
 use Rattle.calendar.specs.declared.DateTime.{DateTime}
 use Rattle.ds3231.specs.Numbers.{nanos, range, day}
-use Rattle.ds3231.specs.declared.Clock.{Clock}
+use Rattle.ds3231.specs.Changed.{offsetFor}
+use Rattle.ds3231.specs.Types.{Clock}
 
--- the whole seconds since the base: 0 at an instant below it
+-- 'Acknowledgements': the whole seconds since the base; instants may fall, and elapsed time then counts as 0
 abbrev pub elapsed : Clock → ℕ → ℕ
 elapsed k t = (t - k .«base_at») / nanos
 
@@ -18,17 +18,13 @@ secondsAt k t = (k .«base_seconds» + elapsed k t) % range
 abbrev pub timeAt : Clock → ℕ → DateTime
 timeAt k t = timeOf (secondsAt k t)
 
--- the weekday that it shows
+-- 'Register bytes': weekday is (days since 2000 + offset) mod 7 + 1
 abbrev pub weekdayAt : Clock → ℕ → ℕ
 weekdayAt k t = (secondsAt k t / day + k .«weekday_offset») % 7 + 1
 
 -- the instant at which the second running at t began: t itself below the base
 abbrev pub secondStart : Clock → ℕ → ℕ
 secondStart k t = t - (t - k .«base_at») % nanos
-
--- the offset, 0 to 6, with which the day number has the weekday
-unfoldable pub offsetFor : ℕ → ℕ → ℕ
-offsetFor weekday days = (weekday - 1 + 7 - days % 7) % 7
 
 -- the clock set to a time with a weekday, a second beginning at t
 abbrev pub clockSet : DateTime → ℕ → ℕ → Clock

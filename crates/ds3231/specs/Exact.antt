@@ -1,26 +1,15 @@
--- The exact time: no bus events whose instants never fall can, from power-on, put the shown time a whole second from the exact count of nanoseconds. One claim about any list of calls, refused ones included.
--- Assumes nothing.
-use Prim.Native.Nat.{ℕ, _+_, _*_, _≤_, _<_}
-use mathlib.Core.Bool.{Bool, true, false}
-use mathlib.Core.List.{List, [], _∷_, _++_}
-use mathlib.Core.Path.{_≡_}
-use lib.Dec.{eqb}
-use lib.ListN.{length, getD}
+-- The exact time, 'Shown time and exact time' of document 01: no bus events whose instants never fall can, from power-on, put the shown time a whole second from the exact count of nanoseconds. One claim about any list of calls, refused ones included. Assumes nothing.
+use Rattle.computed.specs.Prelude.{ℕ, _+_, _*_, _≤_, _<_, Bool, true, false, List, [], _∷_, _++_, _≡_, eqb, length, getD, if_then_else_}
 use Rattle.refusals.specs.Numbered.{Numbered, accepted, refused}
-use Rattle.computed.specs.Choice.{if_then_else_}
 use Rattle.calendar.specs.Stated.{InRange, secondsOf}
 use Rattle.calendar.specs.declared.DateTime.{DateTime}
 use Rattle.diagnostics.specs.declared.I2cDiagnostic.{I2cDiagnostic}
 use Rattle.ds3231.specs.Numbers.{nanos}
 use Rattle.ds3231.specs.Calls.{Answered, replied, Call, bus, taking, chipBy, powerOn, nowAnswer, registerAnswer, verdict, chipAfter, answer}
 use Rattle.ds3231.specs.Model.{Model, reads, exact, wraps, fed, modelOn}
-use Rattle.ds3231.specs.declared.Ds3231.{Ds3231}
-use Rattle.ds3231.specs.declared.Ds3231Config.{Ds3231Config}
-use Rattle.ds3231.specs.declared.Event.{Event}
-use Rattle.ds3231.specs.declared.Event.the-variants.{Start, Write, Read, Stop}
-use Rattle.ds3231.specs.declared.Reply.the-variants.{Byte}
+use Rattle.ds3231.specs.Types.{Ds3231, Ds3231Config, Event, Start, Write, Read, Stop, Byte}
 
--- the events among calls: the bus calls that are not refused, without their stores
+-- 'The table of refusals': a refused call is no event. The events among calls, without their stores
 abbrev pub eventsBy : Numbered (Unit {0}) → Call → List Event → List Event
 eventsBy (refused n vs) k es = es
 eventsBy (accepted u) (bus s e) es = e ∷ es
@@ -77,7 +66,7 @@ abbrev pub watched : Watched → List Call → Watched
 watched w [] = w
 watched w (k ∷ ks) = watched (watchedBy (verdict k (w .chip)) k w) ks
 
--- a date as shown of an exact count: valid, its seconds at most the count and less than a second below it
+-- 'Shown time and exact time': `now`'s date and the exact count. The date is valid, its seconds at most the count and less than a second below it
 pub record Shows (d : DateTime) (count : ℕ) : Type 0 where
   pub valid : InRange d
   pub at-most : secondsOf d * nanos ≤ count

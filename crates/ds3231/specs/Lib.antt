@@ -1,4 +1,6 @@
+pub mod Types
 pub mod Numbers
+pub mod Changed
 pub mod Clock
 pub mod Timing
 pub mod Registers

@@ -1,18 +1,10 @@
--- Document 01's model of the exact time. It is fed the kind, instant, address, read bit and byte of each bus call that is not refused, and no answers. It shares with the chip's side `meaning`, `timeBytes`, the calendar, the numbers of `Numbers`, the events and the configuration, and nothing else.
--- Assumes nothing.
-use Prim.Native.Nat.{ℕ, _+_, _*_, _-_, _/_, _%_, _≤_}
-use mathlib.Core.Bool.{Bool, true, false, _&&_}
-use mathlib.Core.List.{List, [], _∷_, _++_}
-use mathlib.Core.Path.{_≡_}
-use lib.Dec.{leb, ltb, eqb}
-use Rattle.computed.specs.Choice.{if_then_else_}
+-- Document 01's model of the exact time, 'Shown time and exact time'. It is fed the kind, instant, address, read bit and byte of each bus call that is not refused, and no answers. It shares with the chip's side `meaning`, `timeBytes`, the calendar, the numbers of `Numbers`, the events and the configuration, and nothing else. Assumes nothing.
+use Rattle.computed.specs.Prelude.{ℕ, _+_, _*_, _-_, _/_, _%_, _≤_, Bool, true, false, _&&_, List, [], _∷_, _++_, _≡_, leb, ltb, eqb, if_then_else_}
 use Rattle.calendar.specs.Stated.{secondsOf, timeOf, monthLength, dayNumber, withDay}
 use Rattle.calendar.specs.declared.DateTime.{DateTime}
 use Rattle.fields.specs.Table.{Meaning, undefined, sets, meaning, timeBytes}
 use Rattle.ds3231.specs.Numbers.{nanos, range, day}
-use Rattle.ds3231.specs.declared.Ds3231Config.{Ds3231Config}
-use Rattle.ds3231.specs.declared.Event.{Event}
-use Rattle.ds3231.specs.declared.Event.the-variants.{Start, Write, Read, Stop}
+use Rattle.ds3231.specs.Types.{Ds3231Config, Event, Start, Write, Read, Stop}
 
 -- where the model stands in a transaction
 pub data Stage : Type 0 where
@@ -41,7 +33,7 @@ pub record Model : Type 0 where
 
 -- ---- the exact count
 
--- it grows by one each nanosecond, modulo the range
+-- 'Shown time and exact time': it grows by one each nanosecond, modulo 6,311,433,600 × 1,000,000,000
 abbrev pub exact : Model → ℕ → ℕ
 exact m t = (m .count + (t - m .since)) % (range * nanos)
 
@@ -49,7 +41,7 @@ exact m t = (m .count + (t - m .since)) % (range * nanos)
 abbrev pub wholeSecond : Model → ℕ → ℕ
 wholeSecond m t = exact m t / nanos
 
--- the weekday of a day, from 2000-01-01 as day 0, with an offset
+-- 'Register bytes': weekday is (days since 2000 + offset) mod 7 + 1
 abbrev pub weekdayFor : ℕ → ℕ → ℕ
 weekdayFor days offset = (days + offset) % 7 + 1
 
@@ -57,13 +49,13 @@ weekdayFor days offset = (days + offset) % 7 + 1
 abbrev pub exactWeekday : Model → ℕ → ℕ
 exactWeekday m t = weekdayFor (wholeSecond m t / day) (m .offset)
 
--- the seven bytes to latch
+-- 'Shown time and exact time': latched are 0x00 to 0x06 for the count's whole second at that instant, in the hour mode then held, weekday by its rule
 abbrev pub exactBytes : Model → ℕ → List ℕ
 exactBytes m t = timeBytes (timeOf (wholeSecond m t)) (exactWeekday m t) (m .twelve)
 
 -- ---- the date that accepted bytes make, in order
 
--- a month byte also sets the century, a year byte keeps it
+-- 'Shown time and exact time': a month byte also sets the century, a year byte keeps it
 abbrev pub dateWith : Meaning → DateTime → DateTime
 dateWith undefined d = d
 dateWith (sets r n flag) d = record {
@@ -79,11 +71,11 @@ abbrev pub dateBy : List Accepted → DateTime → DateTime
 dateBy [] d = d
 dateBy (a ∷ l) d = dateBy l (dateWith (meaning (a .register) (a .value)) d)
 
--- a day past the month's end becomes its last day
+-- 'Shown time and exact time': a day past the month's end becomes its last day
 abbrev pub clamped : DateTime → DateTime
 clamped d = if ltb (monthLength (d .year) (d .month)) (d .day) then withDay (monthLength (d .year) (d .month)) d else d
 
--- the last accepted weekday byte, or the weekday given
+-- 'Register bytes': the last accepted weekday byte, or without one the weekday given
 abbrev pub weekdayWith : Meaning → ℕ → ℕ
 weekdayWith undefined w = w
 weekdayWith (sets r n flag) w = if eqb r 3 then n else w
@@ -92,7 +84,7 @@ abbrev pub weekdayBy : List Accepted → ℕ → ℕ
 weekdayBy [] w = w
 weekdayBy (a ∷ l) w = weekdayBy l (weekdayWith (meaning (a .register) (a .value)) w)
 
--- the offset, 0 to 6, with which the day has the weekday
+-- 'Register bytes': the offset, 0 to 6, with which the committed date has the weekday
 pub record IsOffset (days weekday offset : ℕ) : Type 0 where
   pub at-most : offset ≤ 6
   pub gives : weekdayFor days offset ≡ weekday
@@ -120,7 +112,7 @@ lastSeconds (a ∷ l) i = lastSeconds l (secondsWith (meaning (a .register) (a .
 
 -- ---- a transaction is closed
 
--- the date set holds at the last seconds byte, with no part second; with none at the first accepted byte, with the part second that the count had there
+-- 'Shown time and exact time': if a seconds byte was accepted, that date holds, with no part second, at the last such byte's instant; otherwise at the first accepted byte's instant, with the part second the exact count had there
 abbrev pub holdsAt : Instant → ℕ → ℕ
 holdsAt never first = first
 holdsAt (at t) first = t
@@ -129,7 +121,7 @@ abbrev pub partSecond : Instant → ℕ → Model → ℕ
 partSecond never first m = exact m first % nanos
 partSecond (at t) first m = 0
 
--- the date set by the accepted bytes l, the first at an instant
+-- 'Shown time and exact time': the date is the count's whole second at the first accepted time byte, changed by each accepted byte in order
 abbrev pub dateSet : List Accepted → ℕ → Model → DateTime
 dateSet l first m = clamped (dateBy l (timeOf (wholeSecond m first)))
 
@@ -163,7 +155,7 @@ standing s m = record { count = m .count; since = m .since; pointer = m .pointer
 abbrev pub pointing : ℕ → Model → Model
 pointing r m = record { count = m .count; since = m .since; pointer = r; stage = m .stage; twelve = m .twelve; offset = m .offset; accepted = m .accepted; latched = m .latched }
 
--- a byte written to a register: an accepted time byte is kept, and an hour byte sets the mode at once
+-- 'Shown time and exact time': a byte that goes to 0x00 to 0x06 and is not undefined is an accepted time byte; an hour byte sets the mode at once
 abbrev pub keeps : Meaning → Accepted → List Accepted → List Accepted
 keeps undefined a l = l
 keeps (sets r n flag) a l = l ++ (a ∷ [])
@@ -173,21 +165,13 @@ modeWith undefined twelve = twelve
 modeWith (sets r n flag) twelve = if eqb r 2 then flag else twelve
 
 abbrev pub keeping : ℕ → ℕ → ℕ → Model → Model
-keeping r b t m = record {
-  count = m .count;
-  since = m .since;
-  pointer = m .pointer;
-  stage = m .stage;
-  twelve = modeWith (meaning r b) (m .twelve);
-  offset = m .offset;
-  accepted = keeps (meaning r b) (record { register = r; value = b; at = t }) (m .accepted);
-  latched = m .latched;
-}
+keeping r b t m = record { count = m .count; since = m .since; pointer = m .pointer; stage = m .stage; twelve = modeWith (meaning r b) (m .twelve); offset = m .offset; accepted = keeps (meaning r b) (record { register = r; value = b; at = t }) (m .accepted); latched = m .latched }
 
--- the pointer moves up by one, from 0x12 to 0
+-- 'Acknowledgements': the pointer goes up by one, from 0x12 to 0
 abbrev pub movedPointer : ℕ → ℕ
 movedPointer r = if ltb r 0x12 then r + 1 else 0
 
+-- 'Shown time and exact time': WRITE follows the acknowledgement rules
 abbrev pub writeIn : Stage → ℕ → ℕ → Model → Model
 writeIn unaddressed b t m = m
 writeIn reads b t m = m
@@ -195,7 +179,7 @@ writeIn drops b t m = m
 writeIn awaitsPointer b t m = if leb b 0x12 then standing writes (pointing b m) else standing drops m
 writeIn writes b t m = pointing (movedPointer (m .pointer)) (keeping (m .pointer) b t m)
 
--- a READ, addressed for reading, moves the pointer from 0x12 to 0, where it latches anew
+-- 'Shown time and exact time': every READ addressed for reading, at whatever register, moves the pointer up by one, from 0x12 to 0, where it latches anew
 abbrev pub isReads : Stage → Bool
 isReads unaddressed = false
 isReads awaitsPointer = false
@@ -212,17 +196,18 @@ readBy t m =
     else if isReads (m .stage) then pointing (m .pointer + 1) m
     else m
 
--- START addresses the model by its read bit if it names 0x68
+-- 'Shown time and exact time': START addresses by its read bit if it names 0x68, else nothing
 abbrev pub stageFor : ℕ → Bool → Stage
 stageFor address read = if eqb address 0x68 then (if read then reads else awaitsPointer) else unaddressed
 
+-- 'Shown time and exact time': START closes the transaction, latches, then addresses; STOP closes the transaction, and nothing is addressed
 abbrev pub fed : Event → Model → Model
 fed (Start a r t) m = standing (stageFor a r) (latching t (closed m))
 fed (Write b t) m = writeIn (m .stage) b t m
 fed (Read k t) m = readBy t m
 fed (Stop t) m = standing unaddressed (closed m)
 
--- at power-on: the configured seconds at instant 0, unaddressed, 24-hour mode, offset 5
+-- 'Shown time and exact time': it begins as at power-on, unaddressed: the configured seconds at instant 0. 'Register bytes': pointer 0, 24-hour mode, offset 5
 abbrev pub modelOn : Ds3231Config → Model
 modelOn f =
     latching 0 (record { count = secondsOf (f .start) * nanos; since = 0; pointer = 0; stage = unaddressed; twelve = false; offset = 5; accepted = []; latched = [] })

@@ -1,7 +1,5 @@
--- What the calls on a lent chip and store promise: document 01's answer, chip, store and output of each call.
--- Assumes nothing.
-use mathlib.Core.List.{List, []}
-use mathlib.Core.Path.{_≡_}
+-- What the calls on a lent chip and store promise: answer, chip, store and output of each call, in the numbers of 'The table of refusals'. Assumes nothing.
+use Rattle.computed.specs.Prelude.{List, [], _≡_}
 use Rattle.refusals.specs.Numbered.{Numbered, accepted, refused}
 use Rattle.diagnostics.specs.declared.I2cDiagnostic.{I2cDiagnostic}
 use Rattle.ds3231.specs.Calls.{Answered, replied, copied, bus, taking, chipAfter, storeAfter, outAfter, answer}

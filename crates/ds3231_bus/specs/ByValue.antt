@@ -1,14 +1,9 @@
--- Need not be believed: what the functions by value promise below the calls on a lent chip and store. `shown` of proofs/BusRows.antt and `took` of proofs/TakingRows.antt turn it into what those calls promise, `Called` and `Took`.
--- Assumes nothing.
-use Prim.Native.Nat.{ℕ, _<_, _≤_}
-use mathlib.Core.Bool.{true, false}
-use mathlib.Core.List.{List, _++_}
-use mathlib.Core.Path.{_≡_}
-use lib.ListN.{length, take, drop}
+-- Need not be believed: what the functions by value promise below the calls on a lent chip and store. `shown` of proofs/BusRows.antt and `took` of proofs/TakingRows.antt turn it into what those calls promise, `Called` and `Took`. Assumes nothing.
+use Rattle.computed.specs.Prelude.{ℕ, _<_, _≤_, true, false, List, _++_, _≡_, length, take, drop}
 use Rattle.diagnostics.specs.Reports.{storedAll}
-use Rattle.diagnostics.specs.ByValue.{writtenIf, OnStores}
 use Rattle.diagnostics.specs.declared.Diagnostics.{Diagnostics}
 use Rattle.diagnostics.specs.declared.I2cDiagnostic.{I2cDiagnostic}
+use Rattle.diagnostics.specs.ByValue.{writtenIf, OnStores}
 use Rattle.ds3231.specs.declared.Ds3231.{Ds3231}
 use Rattle.ds3231.specs.declared.Event.{Event}
 use Rattle.ds3231_bus.specs.Answers.{Called, Took}

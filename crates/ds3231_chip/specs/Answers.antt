@@ -1,10 +1,5 @@
--- What power-on and the calls that ask answer, in document 01's numbers, each by the cases of its enum, and what power-on promises.
--- Assumes nothing.
-use Prim.Native.Nat.{ℕ}
-use mathlib.Core.Bool.{false}
-use mathlib.Core.List.{[], _∷_}
-use mathlib.Core.Path.{_≡_}
-use lib.IntN.{pos}
+-- What power-on and the calls that ask answer, in the numbers of 'The table of refusals', each by the cases of its enum, and what power-on promises. Assumes nothing.
+use Rattle.computed.specs.Prelude.{ℕ, false, [], _∷_, _≡_, pos}
 use Rattle.refusals.specs.Numbered.{Numbered, accepted, refused}
 use Rattle.calendar.specs.Answers.{refusedBy}
 use Rattle.calendar.specs.Stated.{dateTime}

@@ -2,7 +2,7 @@
 ghost use mathlib.Core.Path.{_≡_};
 ghost use Rattle.computed.specs.Choice.{if_then_else_};
 ghost use Rattle.calendar.specs.Stated.{InRange, weekdayOf};
-ghost use Rattle.ds3231.specs.Calls.{noPending, timingOn, registersOn, chipOn};
+ghost use Rattle.ds3231.specs.Calls.{timingOn, registersOn, chipOn};
 ghost use Rattle.ds3231_chip.specs.Answers.{noChip, PoweredOn};
 use crate::PowerOn;
 use crate::PowerOnAnswer;
@@ -110,7 +110,7 @@ fn start_weekday(start: DateTime) -> u8
 }
 
 fn no_pending(start: DateTime) -> PendingTime
-    ensures { λ r. ⌜ r ≡ noPending start ⌝ }
+    ensures { λ r. ⌜ r ≡ record { time = start; weekday = 1 } ⌝ }
 {
     PendingTime {
         time: start,

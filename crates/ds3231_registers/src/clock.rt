@@ -2,7 +2,8 @@
 ghost use mathlib.Core.Path.{_≡_};
 ghost use Prim.Native.Nat.{_-_};
 ghost use Rattle.calendar.specs.Stated.{nearest};
-ghost use Rattle.ds3231.specs.Clock.{secondsAt, timeAt, weekdayAt, secondStart, offsetFor, clockSet};
+ghost use Rattle.ds3231.specs.Clock.{secondsAt, timeAt, weekdayAt, secondStart, clockSet};
+ghost use Rattle.ds3231.specs.Changed.{offsetFor};
 use calendar::DateTime;
 use ds3231::Clock;
 

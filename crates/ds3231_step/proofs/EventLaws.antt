@@ -6,7 +6,7 @@ use mathlib.Core.Path.{_≡_, refl, sym, subst}
 use native.Mathlib.Omega.{arith}
 use lib.Dec.{leb}
 use Rattle.computed.specs.Choice.{if_then_else_}
-use Rattle.ds3231.specs.Timing.{nextPointer}
+use Rattle.ds3231.specs.Changed.{nextPointer}
 use Rattle.ds3231.specs.Calls.{Step, repliedOnly, hasRead}
 use Rattle.ds3231.specs.declared.Ds3231.{Ds3231}
 use Rattle.ds3231.specs.declared.Phase.{Phase}

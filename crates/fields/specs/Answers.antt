@@ -1,9 +1,5 @@
--- Need not be believed: no contract of a call of the chip cites it, and the contract of `decode` (src/lib.rt) equates what `decode` answers with `meaning` (specs/Table.antt).
--- Assumes nothing.
-use Prim.Native.Nat.{ℕ}
-use mathlib.Core.Bool.{false, _&&_}
-use lib.Dec.{leb}
-use Rattle.computed.specs.Choice.{if_then_else_}
+-- Need not be believed: no contract of a call of the chip cites it, and the contract of `decode` (src/lib.rt) equates what `decode` answers with `meaning` (specs/Table.antt). Assumes nothing.
+use Rattle.computed.specs.Prelude.{ℕ, false, _&&_, leb, if_then_else_}
 use Rattle.fields.specs.Table.{Meaning, undefined, sets, fromDigits, decimal}
 use Rattle.fields.specs.declared.Field.{Field}
 use Rattle.fields.specs.declared.Field.the-variants.{Second, Minute, Hour, Weekday, Day, Month, Year}

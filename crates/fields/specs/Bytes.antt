@@ -1,10 +1,5 @@
--- Need not be believed: `byte-of-field` and `field-of-byte` (proofs/Laws.antt) make `fieldByte` the inverse of `meaning`, and `number-of-digits` and `digits-of-number` make `toDigits` that of `fromDigits`.
--- Assumes nothing.
-use Prim.Native.Nat.{ℕ, _+_, _*_, _/_, _%_}
-use mathlib.Core.Bool.{Bool}
-use lib.Bits.{bitOr}
-use lib.Dec.{leb, eqb}
-use Rattle.computed.specs.Choice.{if_then_else_}
+-- Need not be believed: `byte-of-field` and `field-of-byte` (proofs/Laws.antt) make `fieldByte` the inverse of `meaning`, and `number-of-digits` and `digits-of-number` make `toDigits` that of `fromDigits`. Assumes nothing.
+use Rattle.computed.specs.Prelude.{ℕ, _+_, _*_, _/_, _%_, Bool, leb, eqb, bitOr, if_then_else_}
 
 -- the two digits of a number; of one above 159, those that eight bits keep
 unfoldable pub toDigits : ℕ → ℕ

@@ -1,10 +1,5 @@
--- The datasheet's table of the time registers, as document 01 gives it: which byte of a register is defined and which field it sets, and the seven bytes of a time.
--- Assumes nothing.
-use Prim.Native.Nat.{ℕ, _+_, _*_, _/_, _%_, _^_}
-use mathlib.Core.Bool.{Bool, true, false, not, _&&_}
-use mathlib.Core.List.{List, [], _∷_}
-use lib.Dec.{leb, eqb}
-use Rattle.computed.specs.Choice.{if_then_else_}
+-- The datasheet's table of the time registers, as document 01 gives it: which byte of a register is defined and which field it sets, and the seven bytes of a time. Assumes nothing.
+use Rattle.computed.specs.Prelude.{ℕ, _+_, _*_, _/_, _%_, _^_, Bool, true, false, not, _&&_, List, [], _∷_, leb, eqb, if_then_else_}
 use Rattle.calendar.specs.declared.DateTime.{DateTime}
 use Rattle.fields.specs.Bytes.{fieldByte}
 

@@ -6,7 +6,8 @@ use native.Mathlib.Omega.{arith}
 use borrow.Author.Tests.{lt-ltb, le-ltb}
 use Rattle.computed.proofs.Choice.{by-lt}
 use Rattle.gregorian.specs.Calendar.{monthLength}
-use Rattle.gregorian.specs.Times.{Time, nearestIn, nearestTime}
+use Rattle.gregorian.specs.Times.{Time}
+use Rattle.gregorian.specs.Nearest.{nearestIn, nearestTime}
 use Rattle.gregorian.specs.Ranges.{Valid}
 use Rattle.gregorian.proofs.Months.{month-bounds}
 

@@ -1,11 +1,5 @@
--- The Gregorian calendar from 2000-01-01 on: the leap rule, the lengths of the months, and the days counted one by one. A date is the struct `Date` of the source.
--- Assumes nothing.
-use Prim.Native.Nat.{ℕ, zero, suc, _+_, _-_, _%_}
-use mathlib.Core.Bool.{Bool, not, _&&_, _||_}
-use mathlib.Core.List.{List, [], _∷_}
-use lib.Dec.{ltb, eqb}
-use lib.ListN.{getD}
-use Rattle.computed.specs.Choice.{if_then_else_}
+-- The Gregorian calendar from 2000-01-01 on: the leap rule, the lengths of the months, and the days counted one by one. A date is the struct `Date` of the source. Assumes nothing.
+use Rattle.computed.specs.Prelude.{ℕ, zero, suc, _+_, _-_, _%_, Bool, not, _&&_, _||_, List, [], _∷_, ltb, eqb, getD, if_then_else_}
 use Rattle.gregorian.specs.declared.Date.{Date}
 
 -- k divides n

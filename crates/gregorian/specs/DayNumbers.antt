@@ -1,8 +1,5 @@
--- Need not be believed: `dateOfDay-number` and `number-dateOfDay` (proofs/Days.antt): `dayNumber` of a date is the n for which `dateOfDay n` is that date.
--- Assumes nothing.
-use Prim.Native.Nat.{ℕ, zero, suc, _+_, _-_}
-use mathlib.Core.List.{List, [], _∷_}
-use lib.ListN.{take}
+-- Need not be believed: `dateOfDay-number` and `number-dateOfDay` (proofs/Days.antt): `dayNumber` of a date is the n for which `dateOfDay n` is that date. Assumes nothing.
+use Rattle.computed.specs.Prelude.{ℕ, zero, suc, _+_, _-_, List, [], _∷_, take}
 use Rattle.gregorian.specs.Calendar.{leap, months}
 
 -- the sum of a list

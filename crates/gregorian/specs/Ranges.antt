@@ -1,5 +1,4 @@
--- Need not be believed: `valid-accepted` and `accepted-valid` (proofs/Checked.antt): a time is `Valid` exactly where `checkedTime` (specs/Times.antt) accepts it.
--- Assumes nothing.
+-- Need not be believed: `valid-accepted` and `accepted-valid` (proofs/Checked.antt): a time is `Valid` exactly where `checkedTime` (specs/Times.antt) accepts it. Assumes nothing.
 use Prim.Native.Nat.{ℕ, _≤_}
 use Rattle.gregorian.specs.Calendar.{monthLength}
 use Rattle.gregorian.specs.Times.{Time}

@@ -1,11 +1,5 @@
--- A date with a time of day, from 2000-01-01T00:00:00 to 2199-12-31T23:59:59: which are valid, their seconds since 2000, and the nearest valid time.
--- Assumes nothing.
-use Prim.Native.Nat.{ℕ, _+_, _*_, _/_, _%_}
-use mathlib.Core.Bool.{Bool, not, _&&_}
-use mathlib.Core.List.{[], _∷_}
-use lib.Dec.{ltb, leb}
-use lib.IntN.{pos}
-use Rattle.computed.specs.Choice.{if_then_else_}
+-- A date with a time of day, from 2000-01-01T00:00:00 to 2199-12-31T23:59:59: which are valid, and their seconds since 2000. Assumes nothing.
+use Rattle.computed.specs.Prelude.{ℕ, _+_, _*_, _/_, _%_, Bool, not, _&&_, [], _∷_, ltb, leb, pos, if_then_else_}
 use Rattle.refusals.specs.Numbered.{Numbered, accepted, refused}
 use Rattle.gregorian.specs.Calendar.{monthLength, dateOfDay, weekdayOfDay}
 use Rattle.gregorian.specs.DayNumbers.{dayNumber}
@@ -51,14 +45,3 @@ checkedSeconds s = if ltb s 6311433600 then accepted tt else refused 8 []
 -- 'Dates, seconds, weekdays': the day of the week of a time, Monday 1 to Sunday 7
 unfoldable pub weekdayOn : Time → ℕ
 weekdayOn t = weekdayOfDay (dayNumber (t .year) (t .month) (t .day))
-
--- the number from a to b that is nearest to n
-unfoldable pub nearestIn : ℕ → ℕ → ℕ → ℕ
-nearestIn a b n = if ltb n a then a else if ltb b n then b else n
-
--- the time whose every field is moved to the nearest value in its range, a day past the month's end to its last day
-unfoldable pub nearestTime : Time → Time
-nearestTime t =
-    let y = nearestIn 2000 2199 (t .year) in
-    let m = nearestIn 1 12 (t .month) in
-    record { year = y; month = m; day = nearestIn 1 (monthLength y m) (t .day); hour = nearestIn 0 23 (t .hour); minute = nearestIn 0 59 (t .minute); second = nearestIn 0 59 (t .second) }

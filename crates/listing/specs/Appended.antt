@@ -1,12 +1,5 @@
--- Need not be believed: what appending text to a lent slice of bytes leaves and answers, the promises of this crate's functions. `listing` of script_listing/src/lib.rt consumes them, and promises an equation with `listingOf`.
--- Assumes nothing.
-use Prim.Native.Nat.{ℕ, _+_}
-use mathlib.Core.Bool.{Bool}
-use mathlib.Core.List.{List, [], _∷_, _++_}
-use mathlib.Core.Path.{_≡_}
-use lib.Dec.{leb}
-use lib.ListN.{length, take, drop}
-use Rattle.computed.specs.Choice.{if_then_else_}
+-- Need not be believed: what appending text to a lent slice of bytes leaves and answers, the promises of this crate's functions. `listing` of script_listing/src/lib.rt consumes them, and promises an equation with `listingOf`. Assumes nothing.
+use Rattle.computed.specs.Prelude.{ℕ, _+_, Bool, List, [], _∷_, _++_, _≡_, leb, length, take, drop, if_then_else_}
 use Rattle.diagnostics.specs.Reports.{Line}
 use Rattle.listing.specs.Text.{comma, columnText}
 

@@ -1,9 +1,5 @@
--- The text that `clockrun` prints, byte by byte: document 01, 'Script answers'.
--- Assumes nothing.
-use Prim.Native.Nat.{ℕ, zero, suc, _+_, _/_, _%_}
-use mathlib.Core.List.{List, [], _∷_, _++_}
-use lib.Dec.{ltb, eqb}
-use Rattle.computed.specs.Choice.{if_then_else_}
+-- The text that `clockrun` prints, byte by byte: document 01, 'Script answers'. Assumes nothing.
+use Rattle.computed.specs.Prelude.{ℕ, zero, suc, _+_, _/_, _%_, List, [], _∷_, _++_, ltb, eqb, if_then_else_}
 use Rattle.diagnostics.specs.Reports.{Word, UNDEFINED, READONLY, NOREGISTER, NOTMODELLED, Column, none, number, Line, lineOf}
 use Rattle.diagnostics.specs.declared.I2cDiagnostic.{I2cDiagnostic}
 

@@ -1,5 +1,4 @@
--- An answer as document 01 numbers it.
--- Assumes nothing.
+-- An answer as document 01 numbers it. Assumes nothing.
 use Prim.Native.Nat.{ℕ}
 use mathlib.Core.Bool.{Bool, true, false}
 use mathlib.Core.List.{List}

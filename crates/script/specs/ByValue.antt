@@ -1,15 +1,10 @@
--- Need not be believed: the promises of private functions of src/runs.rt by value. `run`, whose promise is `Ran`, consumes them (`shows` in proofs/Rows.antt), and so does `run_values`.
--- Assumes nothing.
-use Prim.Native.Nat.{ℕ}
-use mathlib.Core.Bool.{cond}
-use mathlib.Core.List.{List}
-use mathlib.Core.Path.{_≡_}
-use lib.Dec.{eqb}
-use lib.ListN.{length}
-use Rattle.computed.specs.Choice.{if_then_else_}
+-- Need not be believed: the promises of functions that are no calls of document 01. `run` and `run_values`, whose promise is `Ran`, consume those on stores (`shows` in proofs/Rows.antt); `listing` of script_listing consumes `recordAt`, and promises an equation with `listingOf`. Assumes nothing.
+use Rattle.computed.specs.Prelude.{ℕ, cond, List, _≡_, ltb, eqb, length, if_then_else_}
 use Rattle.diagnostics.specs.declared.I2cDiagnostic.{I2cDiagnostic}
 use Rattle.ds3231.specs.declared.Ds3231.{Ds3231}
+use Rattle.script.specs.Records.{instantOf, kindOf, valueOf, recordsIn}
 use Rattle.script.specs.Runs.{Ran, runNumbered, runVerdict}
+use Rattle.script.specs.declared.records.Record.{Record}
 use Rattle.script.specs.declared.runs.RunAnswer.{RunAnswer}
 use Rattle.script.specs.declared.runs.RunOutcome.{RunOutcome}
 
@@ -25,3 +20,7 @@ RanOnStores c len rs s a r a′ =
 -- `whole`: how many records of a store of n are copied
 unfoldable pub wholeOf : ℕ → ℕ
 wholeOf n = cond (eqb n 256) 256 0
+
+-- `record_at`: record i, or zeros where the script has fewer
+abbrev pub recordAt : List ℕ → ℕ → Record
+recordAt s i = if ltb i (recordsIn s) then record { at = instantOf s i; kind = kindOf s i; value = valueOf s i } else record { at = 0; kind = 0; value = 0 }

@@ -1,18 +1,9 @@
--- A script's records, which scripts are legal, and what the check answers: document 01, 'Script answers' and 'The table of refusals'.
--- Assumes nothing.
-use Prim.Native.Nat.{ℕ, zero, suc, _+_, _*_, _≤_, _<_, _/_, _%_}
-use mathlib.Core.Bool.{Bool, not, _&&_, _||_}
-use mathlib.Core.List.{List, [], _∷_}
-use mathlib.Core.Path.{_≡_}
-use lib.Dec.{ltb, eqb}
-use lib.IntN.{pos}
-use lib.ListN.{length, getD}
+-- A script's records, which scripts are legal, and what the check answers: document 01, 'Script answers' and 'The table of refusals'. Assumes nothing.
+use Rattle.computed.specs.Prelude.{ℕ, zero, suc, _+_, _*_, _≤_, _<_, _/_, _%_, Bool, not, _&&_, _||_, List, [], _∷_, _≡_, ltb, eqb, length, getD, pos, if_then_else_}
 use Rattle.refusals.specs.Numbered.{Numbered, accepted, refused, andThen}
-use Rattle.computed.specs.Choice.{if_then_else_}
 use Rattle.script.specs.declared.CheckAnswer as CheckAnswer
 use Rattle.script.specs.declared.ScriptFault.{ScriptFault}
 use Rattle.script.specs.declared.ScriptFault.the-variants.{TooLong, NotWhole, Kind, Value, Padding, Falling}
-use Rattle.script.specs.declared.records.Record.{Record}
 
 -- the number that k bytes from a position on make, lowest first
 unfoldable pub littleEndian : List ℕ → (from k : ℕ) → ℕ
@@ -38,10 +29,6 @@ padded s i = eqb (littleEndian s (16 * i + 10) 6) 0
 -- how many records a script has
 abbrev pub recordsIn : List ℕ → ℕ
 recordsIn s = length s / 16
-
--- record i, or zeros where the script has fewer
-abbrev pub recordAt : List ℕ → ℕ → Record
-recordAt s i = if ltb i (recordsIn s) then record { at = instantOf s i; kind = kindOf s i; value = valueOf s i } else record { at = 0; kind = 0; value = 0 }
 
 -- ---- legal
 

@@ -1,14 +1,6 @@
--- What a run of a script answers and leaves: the chip's own calls, record after record.
--- Assumes nothing.
-use Prim.Native.Nat.{ℕ, zero, suc, _+_, _*_, _/_, _%_}
-use mathlib.Core.Bool.{false, not}
-use mathlib.Core.List.{List, [], _∷_, _++_}
-use mathlib.Core.Path.{_≡_}
-use lib.Dec.{eqb}
-use lib.IntN.{pos, natAbs}
-use lib.ListN.{length, replicate}
+-- What a run of a script answers and leaves: the chip's own calls, record after record. Assumes nothing.
+use Rattle.computed.specs.Prelude.{ℕ, zero, suc, _+_, _*_, _/_, _%_, false, not, List, [], _∷_, _++_, _≡_, eqb, length, replicate, pos, natAbs, if_then_else_}
 use Rattle.refusals.specs.Numbered.{Numbered, accepted, refused, andThen, unless}
-use Rattle.computed.specs.Choice.{if_then_else_}
 use Rattle.calendar.specs.Stated.{dateTime}
 use Rattle.diagnostics.specs.Reports.{report}
 use Rattle.diagnostics.specs.declared.I2cDiagnostic.{I2cDiagnostic}

@@ -11,7 +11,8 @@ use Rattle.listing.specs.Appended.{Appended, AppendedIn}
 use Rattle.listing.specs.Text.{eventLine}
 use Rattle.listing.proofs.Appending.{nothing, also, within, fitting}
 use Rattle.listing.proofs.Lines.{event-length}
-use Rattle.script.specs.Records.{instantOf, kindOf, valueOf, recordsIn, recordAt}
+use Rattle.script.specs.Records.{instantOf, kindOf, valueOf, recordsIn}
+use Rattle.script.specs.ByValue.{recordAt}
 use Rattle.script.specs.Runs.{answersTo, answerAt, clockrunHeld}
 use Rattle.script.specs.declared.records.Record.{Record}
 use Rattle.script.proofs.RunLaws.{answers-at, answers-length}

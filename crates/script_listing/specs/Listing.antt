@@ -1,9 +1,5 @@
--- What `clockrun` prints for a script: document 01, 'Script answers'.
--- Assumes nothing.
-use Prim.Native.Nat.{ℕ, zero, suc}
-use mathlib.Core.List.{List, [], _∷_, _++_}
-use lib.IntN.{ℤ, natAbs}
-use lib.ListN.{take}
+-- What `clockrun` prints for a script: document 01, 'Script answers'. Assumes nothing.
+use Rattle.computed.specs.Prelude.{ℕ, zero, suc, List, [], _∷_, _++_, take, natAbs}
 use Rattle.refusals.specs.Numbered.{Numbered, accepted, refused}
 use Rattle.listing.specs.Text.{header, eventLine, diagnosticLines, droppedLine, refusedLine}
 use Rattle.script.specs.Records.{instantOf, kindOf, valueOf, recordsIn, checkedScript}
@@ -22,15 +18,11 @@ diagnosticsText h = diagnosticLines (take (h .chip .diagnostics .waiting) (h .st
 abbrev pub ranListing : List ℕ → List ℕ
 ranListing s = header ++ eventLines s (recordsIn s) ++ diagnosticsText (heldAt s clockrunHeld (recordsIn s))
 
--- the record that a refusal names
-abbrev pub recordsNamed : List ℤ → List ℕ
-recordsNamed [] = []
-recordsNamed (i ∷ is) = natAbs i ∷ []
-
 -- by the verdict: a refused script prints its refusal alone
 abbrev pub listingBy : Numbered (Unit {0}) → List ℕ → List ℕ
 listingBy (accepted u) s = ranListing s
-listingBy (refused n is) s = refusedLine n (recordsNamed is)
+listingBy (refused n []) s = refusedLine n []
+listingBy (refused n (i ∷ is)) s = refusedLine n (natAbs i ∷ [])
 
 abbrev pub listingOf : List ℕ → List ℕ
 listingOf s = listingBy (checkedScript s) s

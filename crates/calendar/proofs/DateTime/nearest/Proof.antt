@@ -1,6 +1,6 @@
 -- `calendar::DateTime::nearest` meets its contract, field by field.
 -- Assumes nothing.
-use Rattle.gregorian.specs.Times.{nearestTime}
+use Rattle.gregorian.specs.Nearest.{nearestTime}
 use Rattle.calendar.specs.Dates.{equations}
 use borrow.Author.Needs.{needs}
 use Rattle.calendar.proofs.DateTime.nearest.Statement.{statement}

@@ -1,6 +1,6 @@
 -- `clock::offset_for` meets its contract: the definition, step for step.
 -- Assumes nothing.
-use Rattle.ds3231.specs.Clock.{offsetFor}
+use Rattle.ds3231.specs.Changed.{offsetFor}
 use borrow.Author.Needs.{needs}
 use Rattle.ds3231_registers.proofs.clock.offset_for.Statement.{statement}
 use Rattle.ds3231_registers.proofs.clock.offset_for.Tie as tie

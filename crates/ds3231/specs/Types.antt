@@ -1,0 +1,13 @@
+-- Need not be believed: nothing is defined here. The structs and enums of src/lib.rt, under one name.
+pub use Rattle.ds3231.specs.declared.Clock.{Clock}
+pub use Rattle.ds3231.specs.declared.PendingTime.{PendingTime}
+pub use Rattle.ds3231.specs.declared.Phase.{Phase}
+pub use Rattle.ds3231.specs.declared.Phase.the-variants.{Released, Pointer, Writing, Reading, Ignoring}
+pub use Rattle.ds3231.specs.declared.Timing.{Timing}
+pub use Rattle.ds3231.specs.declared.Registers.{Registers}
+pub use Rattle.ds3231.specs.declared.Ds3231.{Ds3231}
+pub use Rattle.ds3231.specs.declared.Ds3231Config.{Ds3231Config}
+pub use Rattle.ds3231.specs.declared.Event.{Event}
+pub use Rattle.ds3231.specs.declared.Event.the-variants.{Start, Write, Read, Stop}
+pub use Rattle.ds3231.specs.declared.Reply.{Reply}
+pub use Rattle.ds3231.specs.declared.Reply.the-variants.{Acknowledge, Byte, Done}

@@ -17,11 +17,12 @@ use Rattle.calendar.proofs.Laws.{in-range-accepted, month-bounds}
 use Rattle.diagnostics.specs.declared.I2cDiagnostic.{I2cDiagnostic}
 use Rattle.ds3231.specs.Calls.{sound, inQuarters, checkedQuarters, chipOn, powerOn}
 use Rattle.ds3231.specs.declared.Ds3231.{Ds3231}
+use Rattle.ds3231.specs.declared.Ds3231Config.{Ds3231Config}
 use Rattle.ds3231.proofs.ExactTime.{power-on-sound}
 use Rattle.ds3231_chip.specs.Answers.{poweredChip, PoweredOn}
 use Rattle.ds3231_chip.specs.declared.PowerOn.{PowerOn}
-use Rattle.script.specs.Records.{recordsIn, checkedLength, checkedRecords, faultNumbered}
-use Rattle.script.specs.Runs.{Held, runNumbered, checkedRun, runVerdict, clockrunConfig, unwritten, clockrunHeld, Ran}
+use Rattle.script.specs.Records.{recordsIn, checkedLength, faultNumbered, checkedFrom}
+use Rattle.script.specs.Runs.{Held, runNumbered, checkedRun, runVerdict, unwritten, clockrunHeld, Ran}
 use Rattle.script.specs.ByValue.{CheckedOnStores, RanOnStores}
 use Rattle.script.specs.declared.ScriptFault.{ScriptFault}
 use Rattle.script.specs.declared.ScriptFault.the-variants.{TooLong, NotWhole, Kind, Value, Padding, Falling}
@@ -36,8 +37,8 @@ accepted-run : (s : List ℕ) (room : ℕ) → checkedRun s room ≡ accepted tt
 unfolding checkedRun
 accepted-run s room = by (checkedLength (length s))
   where
-    by : (v : Numbered (Unit {0})) → andThen v (if eqb room (recordsIn s) then checkedRecords s else refused 15 []) ≡ accepted tt → room ≡ recordsIn s
-    by (accepted u) e = eqb-true room (recordsIn s) (accepted-first (eqb room (recordsIn s)) (checkedRecords s) 15 [] e .0)
+    by : (v : Numbered (Unit {0})) → andThen v (if eqb room (recordsIn s) then checkedFrom s 0 (recordsIn s) else refused 15 []) ≡ accepted tt → room ≡ recordsIn s
+    by (accepted u) e = eqb-true room (recordsIn s) (accepted-first (eqb room (recordsIn s)) (checkedFrom s 0 (recordsIn s)) 15 [] e .0)
     by (refused n vs) e = never e
 
 -- the store has 256 records, a byte for each record of the script is lent, and the chip is sound
@@ -97,6 +98,9 @@ module _ (c : Ds3231) (len : ℕ) (rs : List I2cDiagnostic) (s a : List ℕ) whe
       kept false q = refl
 
 -- ---- the run from `clockrun`'s power-on
+
+abbrev clockrunConfig : Ds3231Config
+clockrunConfig = record { start = dateTime 2026 1 1 0 0 0; «oscillator_stopped» = false; «temperature_quarters» = pos 100 }
 
 on : powerOn clockrunConfig ≡ accepted (chipOn clockrunConfig)
 unfolding checkedQuarters inQuarters

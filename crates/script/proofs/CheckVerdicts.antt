@@ -18,7 +18,7 @@ use Rattle.script.specs.declared.CheckAnswer.{CheckAnswer}
 use Rattle.script.specs.declared.CheckAnswer.the-variants.{Legal, Refused}
 
 -- a fault is the answer, whatever comes after
-fault-stands : (f : ScriptFault) (x : Numbered (Unit {0})) → faultNumbered f ≡ andThen (faultNumbered f) x
+pub fault-stands : (f : ScriptFault) (x : Numbered (Unit {0})) → faultNumbered f ≡ andThen (faultNumbered f) x
 fault-stands TooLong x = refl
 fault-stands NotWhole x = refl
 fault-stands (Kind i) x = refl

@@ -63,10 +63,6 @@ fault-refuses P h (Value i) = h 17 (pos i ∷ [])
 fault-refuses P h (Padding i) = h 18 (pos i ∷ [])
 fault-refuses P h (Falling i) = h 19 (pos i ∷ [])
 
--- what is checked after a fault is not asked
-pub fault-answer : (f : ScriptFault) (next : Numbered (Unit {0})) → faultNumbered f ≡ andThen (faultNumbered f) next
-fault-answer f next = fault-refuses (λ v. v ≡ andThen v next) (λ n vs. refl) f
-
 answer-leaves : {A : Type 0} (v : RunAnswer) → (v ≡ Done → ⊥) → (after before : A) → before ≡ unless (runNumbered v) after before
 answer-leaves Done n after before = absurd (n refl)
 answer-leaves NotSound n after before = refl
@@ -76,10 +72,14 @@ answer-leaves (Script f) n after before = fault-refuses (λ v. before ≡ unless
 
 -- ---- a run that goes through, and one that is refused
 
-pub accepted-on : (c : Ds3231) (len : ℕ) (s : List ℕ) (room : ℕ) (v : RunAnswer) → CheckedOnStores c len s room v → v ≡ Done → len ≡ 256
-accepted-on c len s room v f d =
-    let l : length (replicate len unwritten) ≡ len = length-replicate len unwritten in
-    sym l ∙ accepted-held (record { chip = c; store = replicate len unwritten }) s room (sym (f (replicate len unwritten) l) ∙ ap runNumbered d) .0
+module _ (c : Ds3231) (len : ℕ) (s : List ℕ) (room : ℕ) (v : RunAnswer) (f : CheckedOnStores c len s room v) (d : v ≡ Done) where
+  pub accepted-on : len ≡ 256
+  accepted-on =
+      let l : length (replicate len unwritten) ≡ len = length-replicate len unwritten in
+      sym l ∙ accepted-held (record { chip = c; store = replicate len unwritten }) s room (sym (f (replicate len unwritten) l) ∙ ap runNumbered d) .0
+
+  pub accepted-values : (rs : List I2cDiagnostic) → length rs ≡ 256 → runVerdict (record { chip = c; store = rs }) s room ≡ accepted tt
+  accepted-values rs l = sym (f rs (l ∙ sym accepted-on)) ∙ ap runNumbered d
 
 module _ (c : Ds3231) (len : ℕ) (rs : List I2cDiagnostic) (s a : List ℕ) where
   pub goes-through : len ≡ 256 → (r : RunOutcome) (a′ : List ℕ) → Ran (record { chip = c; store = rs }) s a (r .answer) (r .chip) (r .records) a′ → RanOnStores c len rs s a r a′

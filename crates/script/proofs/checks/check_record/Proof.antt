@@ -47,13 +47,6 @@ value-requires c κs = search needs
 is-bad-value-requires : tie.Need-is-bad-value-requires
 is-bad-value-requires c κs = search needs
 
-returns-2 : tie.Need-returns-2
-unfolding recordFault checkedFrom
-returns-2 c =
-    let v = c .before .before in
-    let k = v .before .before .before .before in
-    rw (← k .before .kind .ensures, le-ltb _ _ (k .if1 .left), ← v .value .ensures, ← c .before .is-bad-value .ensures, c .if3 .taken)
-
 returns-3 : tie.Need-returns-3
 unfolding recordFault checkedFrom
 returns-3 c =
@@ -63,6 +56,13 @@ returns-3 c =
     let a = k .before .before .before .args in
     let g = bad-padding (a .script .now) (a .i) _ (l .before .number8 .ensures) _ _ (k .before .kind .ensures) (l .largest-half .ensures) _ (v .value .ensures) (omega arith) (v .before .if2 .taken) (sym (c .before .is-bad-value .ensures) ∙ c .if3 .left) in
     rw (← k .before .kind .ensures, le-ltb _ _ (k .if1 .left), ← v .value .ensures, ← c .before .is-bad-value .ensures, c .if3 .left, g)
+
+returns-2 : tie.Need-returns-2
+unfolding recordFault checkedFrom
+returns-2 c =
+    let v = c .before .before in
+    let k = v .before .before .before .before in
+    rw (← k .before .kind .ensures, le-ltb _ _ (k .if1 .left), ← v .value .ensures, ← c .before .is-bad-value .ensures, c .if3 .taken)
 
 instant-requires : tie.Need-instant-requires
 instant-requires c κs = search needs

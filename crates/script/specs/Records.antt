@@ -43,7 +43,7 @@ recordAt s i = if ltb i (recordsIn s) then record { at = instantOf s i; kind = k
 unfoldable pub badValue : ℕ → ℕ → Bool
 badValue kind value = (eqb kind 2 && ltb 1 value) || (eqb kind 3 && ltb 0 value)
 
--- the instant before record i: the first has none before it, and no instant is below 0
+-- 'The table of refusals', 19: the previous record's instant; the first record has none before it, and no instant is below 0
 abbrev pub lastOf : List ℕ → ℕ → ℕ
 lastOf s zero = 0
 lastOf s (suc i) = instantOf s i
@@ -57,7 +57,7 @@ recordFault s i =
     else if ltb (instantOf s i) (lastOf s i) then 19
     else 0
 
--- a script of at most 32,768 bytes, of whole records, and with nothing wrong with any
+-- 'Script answers': at most 2,048 records, which are 32,768 bytes; they are whole, and nothing is wrong with any
 pub record Legal (s : List ℕ) : Type 0 where
   pub short : length s ≤ 32768
   pub whole : length s % 16 ≡ 0

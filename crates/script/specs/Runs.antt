@@ -1,4 +1,4 @@
--- What a run of a script answers and leaves: the chip's own calls, record after record.
+-- What a run of a script answers and leaves, by the chip's own calls, record after record: document 01, 'Script answers' and 'The table of refusals'.
 -- Assumes nothing.
 use Prim.Native.Nat.{ℕ, zero, suc, _+_, _*_, _/_, _%_}
 use mathlib.Core.Bool.{false, not}
@@ -78,7 +78,7 @@ checkedRun s room = andThen (checkedLength (length s)) (if eqb room (recordsIn s
 unfoldable pub runVerdict : Held → List ℕ → ℕ → Numbered (Unit {0})
 runVerdict h s room = if not (sound (h .chip)) then refused 10 [] else if not (eqb (length (h .store)) 256) then refused 11 [] else checkedRun s room
 
--- a run: its answer, the chip, the store and the answer bytes after it; one that is refused leaves all three as they were
+-- a run: its answer, and the chip, the store and the answer bytes after it. 'The table of refusals': refusals change nothing
 pub record Ran (h : Held) (s : List ℕ) (a : List ℕ) (r : RunAnswer) (c′ : Ds3231) (st′ : List I2cDiagnostic) (a′ : List ℕ) : Type 0 where
   pub answers : runNumbered r ≡ runVerdict h s (length a)
   pub chip : c′ ≡ unless (runVerdict h s (length a)) (heldAt s h (recordsIn s) .chip) (h .chip)

@@ -118,21 +118,22 @@ pub legal-accepted : (s : List ℕ) → Legal s → checkedScript s ≡ accepted
 legal-accepted s l =
     ap (λ (v : Numbered (Unit {0})). andThen v (checkedFrom s 0 (recordsIn s))) (length-accepted (length s) (l .short) (l .whole)) ∙ from-accepted s 0 (recordsIn s) (λ j p q. l .records j (omega arith))
 
--- a refusal of the length names no record
+-- how many values a refusal has
 abbrev valuesIn : Numbered (Unit {0}) → ℕ
 valuesIn (accepted u) = 0
 valuesIn (refused n values) = length values
 
+-- a refusal of the length names no record: one that names a record is that of the records
 module _ (n m i : ℕ) (v : Numbered (Unit {0})) where
-  abbrev Next : Numbered (Unit {0}) → Type 0
-  Next w = andThen w v ≡ refused m (pos i ∷ []) → v ≡ refused m (pos i ∷ [])
+  abbrev OfRecords : Numbered (Unit {0}) → Type 0
+  OfRecords w = andThen w v ≡ refused m (pos i ∷ []) → v ≡ refused m (pos i ∷ [])
 
-  none : _≡_ {A = ℕ} 0 1 → v ≡ refused m (pos i ∷ [])
-  none z = absurd (omega (arith, z))
+  no-record : _≡_ {A = ℕ} 0 1 → v ≡ refused m (pos i ∷ [])
+  no-record z = absurd (omega (arith, z))
 
-  records-refused : Next (checkedLength n)
+  records-refused : OfRecords (checkedLength n)
   unfolding checkedLength
-  records-refused = chosen Next (ltb 32768 n) (λ e q. none (ap valuesIn q)) (λ e. chosen Next (eqb (n % 16) 0) (λ f q. q) (λ f q. none (ap valuesIn q)))
+  records-refused = chosen OfRecords (ltb 32768 n) (λ e q. no-record (ap valuesIn q)) (λ e. chosen OfRecords (eqb (n % 16) 0) (λ f q. q) (λ f q. no-record (ap valuesIn q)))
 
 pub first-fault : (s : List ℕ) (n i : ℕ) → checkedScript s ≡ refused n (pos i ∷ []) → FirstFault s n i
 first-fault s n i e =

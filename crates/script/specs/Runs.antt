@@ -46,7 +46,7 @@ pub record Held : Type 0 where
   pub chip : Ds3231
   pub store : List I2cDiagnostic
 
--- after the first i records
+-- the chip and its store after the first i records
 unfoldable pub heldAt : List ℕ → Held → ℕ → Held
 heldAt s h zero = h
 heldAt s h (suc i) =

@@ -10,15 +10,15 @@ abbrev pub digitsIn : ℕ → ℕ → List ℕ
 digitsIn zero n = []
 digitsIn (suc places) n = if ltb n 10 then ((48 + n) ∷ []) else (digitsIn places (n / 10) ++ ((48 + n % 10) ∷ []))
 
--- of a number below 10^20, which every number of 64 bits is
+-- 'Script answers': instants and the dropped count are decimal; every number of 64 bits is below 10^20
 unfoldable pub decimalOf : ℕ → List ℕ
 decimalOf n = digitsIn 20 n
 
--- a hexadecimal digit, upper case
+-- 'Script answers': letters upper case
 unfoldable pub hexDigit : ℕ → ℕ
 hexDigit d = if ltb d 10 then 48 + d else 55 + d
 
--- two hexadecimal digits of a byte
+-- 'Script answers': value, answer, register and byte two hexadecimal digits
 abbrev pub hexOf : ℕ → List ℕ
 hexOf b = hexDigit (b / 16) ∷ hexDigit (b % 16) ∷ []
 
@@ -30,11 +30,11 @@ comma = 44 ∷ []
 abbrev pub lineEnd : List ℕ
 lineEnd = 10 ∷ []
 
--- `at,event,value,answer` and a line feed
+-- 'Script answers': `at,event,value,answer`, and a line feed
 abbrev pub header : List ℕ
 header = 97 ∷ 116 ∷ 44 ∷ 101 ∷ 118 ∷ 101 ∷ 110 ∷ 116 ∷ 44 ∷ 118 ∷ 97 ∷ 108 ∷ 117 ∷ 101 ∷ 44 ∷ 97 ∷ 110 ∷ 115 ∷ 119 ∷ 101 ∷ 114 ∷ 10 ∷ []
 
--- `START`, `WRITE`, `READ`, `STOP`, by the kind of the record
+-- 'Script answers': `START`, `WRITE`, `READ`, `STOP`, by the kind of the record
 unfoldable pub eventWord : ℕ → List ℕ
 eventWord kind =
     if eqb kind 0 then (83 ∷ 84 ∷ 65 ∷ 82 ∷ 84 ∷ [])
@@ -42,18 +42,18 @@ eventWord kind =
     else if eqb kind 2 then (82 ∷ 69 ∷ 65 ∷ 68 ∷ [])
     else (83 ∷ 84 ∷ 79 ∷ 80 ∷ [])
 
--- `DS3231`
+-- 'Script answers': the six bytes `DS3231`
 abbrev pub chipName : List ℕ
 chipName = 68 ∷ 83 ∷ 51 ∷ 50 ∷ 51 ∷ 49 ∷ []
 
--- document 01's words for the kinds of report
+-- 'Diagnostics': `UNDEFINED`, `READONLY`, `NOREGISTER`, `NOTMODELLED`
 abbrev pub wordText : Word → List ℕ
 wordText UNDEFINED = 85 ∷ 78 ∷ 68 ∷ 69 ∷ 70 ∷ 73 ∷ 78 ∷ 69 ∷ 68 ∷ []
 wordText READONLY = 82 ∷ 69 ∷ 65 ∷ 68 ∷ 79 ∷ 78 ∷ 76 ∷ 89 ∷ []
 wordText NOREGISTER = 78 ∷ 79 ∷ 82 ∷ 69 ∷ 71 ∷ 73 ∷ 83 ∷ 84 ∷ 69 ∷ 82 ∷ []
 wordText NOTMODELLED = 78 ∷ 79 ∷ 84 ∷ 77 ∷ 79 ∷ 68 ∷ 69 ∷ 76 ∷ 76 ∷ 69 ∷ 68 ∷ []
 
--- two hexadecimal digits, or `--`
+-- 'Script answers': register and byte, or `--`
 abbrev pub columnText : Column → List ℕ
 columnText none = 45 ∷ 45 ∷ []
 columnText (number n) = hexOf n
@@ -68,11 +68,11 @@ refusedWord = 114 ∷ 101 ∷ 102 ∷ 117 ∷ 115 ∷ 101 ∷ 100 ∷ 44 ∷ []
 
 -- ---- lines
 
--- `1000300000,WRITE,08,01`
+-- 'Script answers': `1000300000,WRITE,08,01`
 abbrev pub eventLine : (at kind value answer : ℕ) → List ℕ
 eventLine at kind value answer = decimalOf at ++ comma ++ eventWord kind ++ comma ++ hexOf value ++ comma ++ hexOf answer ++ lineEnd
 
--- `DS3231,1000300000,UNDEFINED,03,08`
+-- 'Script answers': `DS3231,1000300000,UNDEFINED,03,08`
 abbrev pub diagnosticText : ℕ → Line → List ℕ
 diagnosticText at l = chipName ++ comma ++ decimalOf at ++ comma ++ wordText (l .word) ++ comma ++ columnText (l .register) ++ comma ++ columnText (l .byte) ++ lineEnd
 
@@ -83,14 +83,15 @@ abbrev pub diagnosticLines : List I2cDiagnostic → List ℕ
 diagnosticLines [] = []
 diagnosticLines (d ∷ ds) = diagnosticLine d ++ diagnosticLines ds
 
--- `dropped,0`
+-- 'Script answers': `dropped,0`
 abbrev pub droppedLine : ℕ → List ℕ
 droppedLine n = droppedWord ++ decimalOf n ++ lineEnd
 
--- `refused,16,3`, or `refused,13,-` where no record is meant
+-- 'Script answers': record from 0, or `-` for 13 and 14
 abbrev pub recordText : List ℕ → List ℕ
 recordText [] = 45 ∷ []
 recordText (i ∷ is) = decimalOf i
 
+-- 'Script answers': `refused,N,R`, number, and record
 abbrev pub refusedLine : ℕ → List ℕ → List ℕ
 refusedLine n is = refusedWord ++ decimalOf n ++ comma ++ recordText is ++ lineEnd

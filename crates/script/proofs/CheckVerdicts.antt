@@ -11,14 +11,14 @@ use lib.IntN.{ℤ}
 use lib.ListN.{length}
 use Rattle.refusals.specs.Numbered.{Numbered, accepted, refused, andThen}
 use Rattle.computed.specs.Choice.{if_then_else_}
-use Rattle.script.specs.Records.{instantOf, lastOf, recordFault, recordsIn, checkedLength, checkedFrom, checkedRecords, checkedScript, faultNumbered, checkNumbered}
+use Rattle.script.specs.Records.{instantOf, lastOf, recordFault, recordsIn, checkedLength, checkedFrom, checkedScript, faultNumbered, checkNumbered}
 use Rattle.script.specs.declared.ScriptFault.{ScriptFault}
 use Rattle.script.specs.declared.ScriptFault.the-variants.{TooLong, NotWhole, Kind, Value, Padding, Falling}
 use Rattle.script.specs.declared.CheckAnswer.{CheckAnswer}
 use Rattle.script.specs.declared.CheckAnswer.the-variants.{Legal, Refused}
 
 -- a fault is the answer, whatever comes after
-fault-stands : (f : ScriptFault) (x : Numbered (Unit {0})) → faultNumbered f ≡ andThen (faultNumbered f) x
+pub fault-stands : (f : ScriptFault) (x : Numbered (Unit {0})) → faultNumbered f ≡ andThen (faultNumbered f) x
 fault-stands TooLong x = refl
 fault-stands NotWhole x = refl
 fault-stands (Kind i) x = refl
@@ -29,11 +29,11 @@ fault-stands (Falling i) x = refl
 -- ---- the script
 
 module _ (s : List ℕ) (r : CheckAnswer) where
-  pub legal-length : r ≡ Legal → checkNumbered r ≡ checkedLength (length s) → checkedRecords s ≡ checkedScript s
-  legal-length e p = ap (λ (v : Numbered (Unit {0})). andThen v (checkedRecords s)) (sym (ap checkNumbered e) ∙ p)
+  pub legal-length : r ≡ Legal → checkNumbered r ≡ checkedLength (length s) → checkedFrom s 0 (recordsIn s) ≡ checkedScript s
+  legal-length e p = ap (λ (v : Numbered (Unit {0})). andThen v (checkedFrom s 0 (recordsIn s))) (sym (ap checkNumbered e) ∙ p)
 
   pub bad-length : (f : ScriptFault) → r ≡ Refused f → checkNumbered r ≡ checkedLength (length s) → faultNumbered f ≡ checkedScript s
-  bad-length f e p = fault-stands f _ ∙ ap (λ (v : Numbered (Unit {0})). andThen v (checkedRecords s)) (sym (ap checkNumbered e) ∙ p)
+  bad-length f e p = fault-stands f _ ∙ ap (λ (v : Numbered (Unit {0})). andThen v (checkedFrom s 0 (recordsIn s))) (sym (ap checkNumbered e) ∙ p)
 
 -- ---- its records
 
@@ -41,7 +41,7 @@ module _ (s : List ℕ) (r : CheckAnswer) where
 pub record Passed (s : List ℕ) (n i last : ℕ) : Type 0 where
   pub number : n ≡ recordsIn s
   pub within : i ≤ n
-  pub checked : checkedRecords s ≡ checkedFrom s i (n - i)
+  pub checked : checkedFrom s 0 (recordsIn s) ≡ checkedFrom s i (n - i)
   pub before : last ≡ lastOf s i
 
 chosen-then : (b : Bool) (x : Numbered (Unit {0})) (n : ℕ) (values : List ℤ) → (if b then x else refused n values) ≡ andThen (if b then accepted (tt {0}) else refused n values) x
@@ -54,19 +54,19 @@ first-then s i m = chosen-then (eqb (recordFault s i) 0) _ _ _
 
 module _ (s : List ℕ) (n i last : ℕ) (p : Passed s n i last) where
   -- the answer for record i, then the verdict on those after it
-  record-then : i < n → (r : CheckAnswer) → checkNumbered r ≡ checkedFrom s i 1 → checkedRecords s ≡ andThen (checkNumbered r) (checkedFrom s (i + 1) (n - (i + 1)))
+  record-then : i < n → (r : CheckAnswer) → checkNumbered r ≡ checkedFrom s i 1 → checkedFrom s 0 (recordsIn s) ≡ andThen (checkNumbered r) (checkedFrom s (i + 1) (n - (i + 1)))
   record-then h r e =
       let k : n - i ≡ suc (n - (i + 1)) = omega arith in
       p .checked ∙ ap (checkedFrom s i) k ∙ first-then s i _ ∙ ap (λ (v : Numbered (Unit {0})). andThen v (checkedFrom s (i + 1) (n - (i + 1)))) (sym e)
 
   module _ (h : i < n) (r : CheckAnswer) (e : checkNumbered r ≡ checkedFrom s i 1) where
-    pub stops : (f : ScriptFault) → r ≡ Refused f → faultNumbered f ≡ checkedRecords s
+    pub stops : (f : ScriptFault) → r ≡ Refused f → faultNumbered f ≡ checkedFrom s 0 (recordsIn s)
     stops f q = fault-stands f _ ∙ sym (record-then h (Refused f) (sym (ap checkNumbered q) ∙ e))
 
     pub passes : (at : ℕ) → r ≡ Legal → at ≡ instantOf s i → Passed s n (i + 1) at
     passes at q a = record { number = p .number; within = omega arith; checked = record-then h Legal (sym (ap checkNumbered q) ∙ e); before = a ∙ ap (lastOf s) (sym (add-one i)) }
 
-  pub ends : n ≤ i → accepted (tt {0}) ≡ checkedRecords s
+  pub ends : n ≤ i → accepted (tt {0}) ≡ checkedFrom s 0 (recordsIn s)
   unfolding checkedFrom
   ends h = let k : n - i ≡ 0 = omega arith in sym (p .checked ∙ ap (checkedFrom s i) k)
 

@@ -1,7 +1,6 @@
 -- The host's number of a check and of a run fits in 32 bits.
 -- Assumes nothing.
-use Prim.Native.Nat.{ℕ, zero, suc, _+_, _≤_, _<_, _%_}
-use mathlib.Core.Bool.{not}
+use Prim.Native.Nat.{ℕ, zero, suc, _+_, _*_, _≤_, _<_, _%_}
 use mathlib.Core.List.{List}
 use native.Mathlib.Omega.{arith}
 use lib.Dec.{ltb, eqb}
@@ -9,7 +8,7 @@ use lib.ListN.{length}
 use borrow.Author.Tests.{ltb-false}
 use Rattle.refusals.specs.Numbered.{Numbered, andThen}
 use Rattle.computed.proofs.Choice.{chosen}
-use Rattle.script.specs.Records.{recordsIn, instantOf, kindOf, valueOf, padded, badValue, lastOf, recordFault, checkedLength, checkedFrom, checkedRecords, checkedScript}
+use Rattle.script.specs.Records.{recordsIn, littleEndian, instantOf, kindOf, valueOf, badValue, lastOf, recordFault, checkedLength, checkedFrom, checkedScript}
 use Rattle.script.specs.Runs.{checkedRun, hostNumber}
 
 record-to : (s : List ℕ) (i : ℕ) → recordFault s i ≤ 19
@@ -17,7 +16,7 @@ unfolding recordFault
 record-to s i =
     chosen (λ x. x ≤ 19) (ltb 3 (kindOf s i)) (λ e. omega arith)
     (λ e. chosen (λ x. x ≤ 19) (badValue (kindOf s i) (valueOf s i)) (λ e. omega arith)
-    (λ e. chosen (λ x. x ≤ 19) (not (padded s i)) (λ e. omega arith)
+    (λ e. chosen (λ x. x ≤ 19) (ltb 0 (littleEndian s (16 * i + 10) 6)) (λ e. omega arith)
     (λ e. chosen (λ x. x ≤ 19) (ltb (instantOf s i) (lastOf s i)) (λ e. omega arith) (λ e. omega arith))))
 
 abbrev Fits : Numbered (Unit {0}) → Type 0
@@ -36,7 +35,7 @@ after-length n v h =
     (λ e. chosen (λ w. Fits (andThen w v)) (eqb (n % 16) 0) (λ e₂. h (ltb-false 32768 n e)) (λ e₂. omega arith))
 
 pub check-fits : (s : List ℕ) → Fits (checkedScript s)
-check-fits s = after-length (length s) (checkedRecords s) (λ l. records-fit s (recordsIn s) 0 (omega arith))
+check-fits s = after-length (length s) (checkedFrom s 0 (recordsIn s)) (λ l. records-fit s (recordsIn s) 0 (omega arith))
 
 pub run-fits : (s : List ℕ) (room : ℕ) → Fits (checkedRun s room)
 unfolding checkedRun

@@ -14,7 +14,8 @@ use borrow.Author.Tests.{ltb-false, le-ltb, eqb-true, eqb-false, eq-eqb}
 use Rattle.refusals.specs.Numbered.{Numbered, accepted, refused, andThen}
 use Rattle.refusals.proofs.Checks.{never}
 use Rattle.computed.specs.Choice.{if_then_else_}
-use Rattle.script.specs.Records.{Legal, FirstFault, recordFault, recordsIn, checkedLength, checkedFrom, checkedRecords, checkedScript}
+use Rattle.computed.proofs.Choice.{chosen}
+use Rattle.script.specs.Records.{Legal, FirstFault, recordFault, recordsIn, checkedLength, checkedFrom, checkedScript}
 
 -- ---- answers
 
@@ -109,15 +110,32 @@ module _ (s : List ℕ) where
 
 pub accepted-legal : (s : List ℕ) → checkedScript s ≡ accepted tt → Legal s
 accepted-legal s e =
-    let t : (checkedLength (length s) ≡ accepted (tt {0})) × (checkedRecords s ≡ accepted (tt {0})) = both-accepted (checkedLength (length s)) (checkedRecords s) e in
+    let t : (checkedLength (length s) ≡ accepted (tt {0})) × (checkedFrom s 0 (recordsIn s) ≡ accepted (tt {0})) = both-accepted (checkedLength (length s)) (checkedFrom s 0 (recordsIn s)) e in
     let l : ShortWhole (length s) = accepted-length (length s) (t .0) in
     record { short = l .short; whole = l .whole; records = λ i h. accepted-from s 0 (recordsIn s) (t .1) i (omega arith) (omega arith) }
 
 pub legal-accepted : (s : List ℕ) → Legal s → checkedScript s ≡ accepted tt
 legal-accepted s l =
-    ap (λ (v : Numbered (Unit {0})). andThen v (checkedRecords s)) (length-accepted (length s) (l .short) (l .whole)) ∙ from-accepted s 0 (recordsIn s) (λ j p q. l .records j (omega arith))
+    ap (λ (v : Numbered (Unit {0})). andThen v (checkedFrom s 0 (recordsIn s))) (length-accepted (length s) (l .short) (l .whole)) ∙ from-accepted s 0 (recordsIn s) (λ j p q. l .records j (omega arith))
 
-pub first-fault : (s : List ℕ) (n i : ℕ) → checkedRecords s ≡ refused n (pos i ∷ []) → FirstFault s n i
+-- how many values a refusal has
+abbrev valuesIn : Numbered (Unit {0}) → ℕ
+valuesIn (accepted u) = 0
+valuesIn (refused n values) = length values
+
+-- a refusal of the length names no record: one that names a record is that of the records
+module _ (n m i : ℕ) (v : Numbered (Unit {0})) where
+  abbrev OfRecords : Numbered (Unit {0}) → Type 0
+  OfRecords w = andThen w v ≡ refused m (pos i ∷ []) → v ≡ refused m (pos i ∷ [])
+
+  no-record : _≡_ {A = ℕ} 0 1 → v ≡ refused m (pos i ∷ [])
+  no-record z = absurd (omega (arith, z))
+
+  records-refused : OfRecords (checkedLength n)
+  unfolding checkedLength
+  records-refused = chosen OfRecords (ltb 32768 n) (λ e q. no-record (ap valuesIn q)) (λ e. chosen OfRecords (eqb (n % 16) 0) (λ f q. q) (λ f q. no-record (ap valuesIn q)))
+
+pub first-fault : (s : List ℕ) (n i : ℕ) → checkedScript s ≡ refused n (pos i ∷ []) → FirstFault s n i
 first-fault s n i e =
-    let r : FirstFrom s 0 (recordsIn s) n i = first-from s 0 (recordsIn s) n i e in
+    let r : FirstFrom s 0 (recordsIn s) n i = first-from s 0 (recordsIn s) n i (records-refused (length s) n i _ e) in
     record { within = omega (arith, r .within); fault = r .fault; named = r .named; before = λ j h. r .before j (omega arith) h }

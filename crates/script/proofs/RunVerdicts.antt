@@ -17,11 +17,12 @@ use Rattle.calendar.proofs.Laws.{in-range-accepted, month-bounds}
 use Rattle.diagnostics.specs.declared.I2cDiagnostic.{I2cDiagnostic}
 use Rattle.ds3231.specs.Calls.{sound, inQuarters, checkedQuarters, chipOn, powerOn}
 use Rattle.ds3231.specs.declared.Ds3231.{Ds3231}
+use Rattle.ds3231.specs.declared.Ds3231Config.{Ds3231Config}
 use Rattle.ds3231.proofs.ExactTime.{power-on-sound}
 use Rattle.ds3231_chip.specs.Answers.{poweredChip, PoweredOn}
 use Rattle.ds3231_chip.specs.declared.PowerOn.{PowerOn}
-use Rattle.script.specs.Records.{recordsIn, checkedLength, checkedRecords, faultNumbered}
-use Rattle.script.specs.Runs.{Held, runNumbered, checkedRun, runVerdict, clockrunConfig, unwritten, clockrunHeld, Ran}
+use Rattle.script.specs.Records.{recordsIn, checkedLength, faultNumbered, checkedFrom}
+use Rattle.script.specs.Runs.{Held, runNumbered, checkedRun, runVerdict, unwritten, clockrunHeld, Ran}
 use Rattle.script.specs.ByValue.{CheckedOnStores, RanOnStores}
 use Rattle.script.specs.declared.ScriptFault.{ScriptFault}
 use Rattle.script.specs.declared.ScriptFault.the-variants.{TooLong, NotWhole, Kind, Value, Padding, Falling}
@@ -36,8 +37,8 @@ accepted-run : (s : List ℕ) (room : ℕ) → checkedRun s room ≡ accepted tt
 unfolding checkedRun
 accepted-run s room = by (checkedLength (length s))
   where
-    by : (v : Numbered (Unit {0})) → andThen v (if eqb room (recordsIn s) then checkedRecords s else refused 15 []) ≡ accepted tt → room ≡ recordsIn s
-    by (accepted u) e = eqb-true room (recordsIn s) (accepted-first (eqb room (recordsIn s)) (checkedRecords s) 15 [] e .0)
+    by : (v : Numbered (Unit {0})) → andThen v (if eqb room (recordsIn s) then checkedFrom s 0 (recordsIn s) else refused 15 []) ≡ accepted tt → room ≡ recordsIn s
+    by (accepted u) e = eqb-true room (recordsIn s) (accepted-first (eqb room (recordsIn s)) (checkedFrom s 0 (recordsIn s)) 15 [] e .0)
     by (refused n vs) e = never e
 
 -- the store has 256 records, a byte for each record of the script is lent, and the chip is sound
@@ -62,10 +63,6 @@ fault-refuses P h (Value i) = h 17 (pos i ∷ [])
 fault-refuses P h (Padding i) = h 18 (pos i ∷ [])
 fault-refuses P h (Falling i) = h 19 (pos i ∷ [])
 
--- what is checked after a fault is not asked
-pub fault-answer : (f : ScriptFault) (next : Numbered (Unit {0})) → faultNumbered f ≡ andThen (faultNumbered f) next
-fault-answer f next = fault-refuses (λ v. v ≡ andThen v next) (λ n vs. refl) f
-
 answer-leaves : {A : Type 0} (v : RunAnswer) → (v ≡ Done → ⊥) → (after before : A) → before ≡ unless (runNumbered v) after before
 answer-leaves Done n after before = absurd (n refl)
 answer-leaves NotSound n after before = refl
@@ -75,10 +72,14 @@ answer-leaves (Script f) n after before = fault-refuses (λ v. before ≡ unless
 
 -- ---- a run that goes through, and one that is refused
 
-pub accepted-on : (c : Ds3231) (len : ℕ) (s : List ℕ) (room : ℕ) (v : RunAnswer) → CheckedOnStores c len s room v → v ≡ Done → len ≡ 256
-accepted-on c len s room v f d =
-    let l : length (replicate len unwritten) ≡ len = length-replicate len unwritten in
-    sym l ∙ accepted-held (record { chip = c; store = replicate len unwritten }) s room (sym (f (replicate len unwritten) l) ∙ ap runNumbered d) .0
+module _ (c : Ds3231) (len : ℕ) (s : List ℕ) (room : ℕ) (v : RunAnswer) (f : CheckedOnStores c len s room v) (d : v ≡ Done) where
+  pub accepted-on : len ≡ 256
+  accepted-on =
+      let l : length (replicate len unwritten) ≡ len = length-replicate len unwritten in
+      sym l ∙ accepted-held (record { chip = c; store = replicate len unwritten }) s room (sym (f (replicate len unwritten) l) ∙ ap runNumbered d) .0
+
+  pub accepted-values : (rs : List I2cDiagnostic) → length rs ≡ 256 → runVerdict (record { chip = c; store = rs }) s room ≡ accepted tt
+  accepted-values rs l = sym (f rs (l ∙ sym accepted-on)) ∙ ap runNumbered d
 
 module _ (c : Ds3231) (len : ℕ) (rs : List I2cDiagnostic) (s a : List ℕ) where
   pub goes-through : len ≡ 256 → (r : RunOutcome) (a′ : List ℕ) → Ran (record { chip = c; store = rs }) s a (r .answer) (r .chip) (r .records) a′ → RanOnStores c len rs s a r a′
@@ -97,6 +98,9 @@ module _ (c : Ds3231) (len : ℕ) (rs : List I2cDiagnostic) (s a : List ℕ) whe
       kept false q = refl
 
 -- ---- the run from `clockrun`'s power-on
+
+abbrev clockrunConfig : Ds3231Config
+clockrunConfig = record { start = dateTime 2026 1 1 0 0 0; «oscillator_stopped» = false; «temperature_quarters» = pos 100 }
 
 on : powerOn clockrunConfig ≡ accepted (chipOn clockrunConfig)
 unfolding checkedQuarters inQuarters

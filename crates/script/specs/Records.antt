@@ -1,5 +1,5 @@
 -- A script's records, which scripts are legal, and what the check answers: document 01, 'Script answers' and 'The table of refusals'. Assumes nothing.
-use Rattle.computed.specs.Prelude.{ℕ, zero, suc, _+_, _*_, _≤_, _<_, _/_, _%_, Bool, not, _&&_, _||_, List, [], _∷_, _≡_, ltb, eqb, length, getD, pos, if_then_else_}
+use Rattle.computed.specs.Prelude.{ℕ, zero, suc, _+_, _*_, _≤_, _<_, _/_, _%_, Bool, _&&_, _||_, List, [], _∷_, _≡_, ltb, eqb, length, getD, pos, if_then_else_}
 use Rattle.refusals.specs.Numbered.{Numbered, accepted, refused, andThen}
 use Rattle.script.specs.declared.CheckAnswer as CheckAnswer
 use Rattle.script.specs.declared.ScriptFault.{ScriptFault}
@@ -22,35 +22,29 @@ kindOf s i = getD s (16 * i + 8) 0
 abbrev pub valueOf : List ℕ → ℕ → ℕ
 valueOf s i = getD s (16 * i + 9) 0
 
--- 'Script answers': bytes 10 to 15 zero, so that the number they make is
-abbrev pub padded : List ℕ → ℕ → Bool
-padded s i = eqb (littleEndian s (16 * i + 10) 6) 0
-
 -- how many records a script has
 abbrev pub recordsIn : List ℕ → ℕ
 recordsIn s = length s / 16
-
--- ---- legal
 
 -- 'The table of refusals', 17: READ above 1, STOP not 0
 unfoldable pub badValue : ℕ → ℕ → Bool
 badValue kind value = (eqb kind 2 && ltb 1 value) || (eqb kind 3 && ltb 0 value)
 
--- the instant before record i: the first has none before it, and no instant is below 0
+-- 'The table of refusals', 19: the previous record's instant; the first record has none before it, and no instant is below 0
 abbrev pub lastOf : List ℕ → ℕ → ℕ
 lastOf s zero = 0
 lastOf s (suc i) = instantOf s i
 
--- 'The table of refusals', 16 to 19 in their order: the first that holds of record i, or 0 where none does
+-- 'The table of refusals', 16 to 19 in their order: the first that holds of record i, or 0 where none does; bytes 10 to 15 are zero where the number they make is
 unfoldable pub recordFault : List ℕ → ℕ → ℕ
 recordFault s i =
     if ltb 3 (kindOf s i) then 16
     else if badValue (kindOf s i) (valueOf s i) then 17
-    else if not (padded s i) then 18
+    else if ltb 0 (littleEndian s (16 * i + 10) 6) then 18
     else if ltb (instantOf s i) (lastOf s i) then 19
     else 0
 
--- a script of at most 32,768 bytes, of whole records, and with nothing wrong with any
+-- 'Script answers': at most 2,048 records, which are 32,768 bytes; they are whole, and nothing is wrong with any
 pub record Legal (s : List ℕ) : Type 0 where
   pub short : length s ≤ 32768
   pub whole : length s % 16 ≡ 0
@@ -63,8 +57,6 @@ pub record FirstFault (s : List ℕ) (number i : ℕ) : Type 0 where
   pub named : number ≡ 0 → ⊥
   pub before : (j : ℕ) → j < i → recordFault s j ≡ 0
 
--- ---- the check. In proofs/Laws.antt: `accepted-legal` and `legal-accepted`, it accepts exactly the legal scripts; `first-fault`, it refuses with the first fault
-
 -- 'The table of refusals', of a script's length: 14, then 13
 unfoldable pub checkedLength : ℕ → Numbered (Unit {0})
 checkedLength n = if ltb 32768 n then refused 14 [] else if eqb (n % 16) 0 then accepted tt else refused 13 []
@@ -74,12 +66,9 @@ unfoldable pub checkedFrom : List ℕ → ℕ → ℕ → Numbered (Unit {0})
 checkedFrom s i zero = accepted tt
 checkedFrom s i (suc n) = if eqb (recordFault s i) 0 then checkedFrom s (i + 1) n else refused (recordFault s i) (pos i ∷ [])
 
-abbrev pub checkedRecords : List ℕ → Numbered (Unit {0})
-checkedRecords s = checkedFrom s 0 (recordsIn s)
-
--- 'The table of refusals': 14, 13, then record by record 16 to 19
+-- 'The table of refusals': 14, 13, then record by record 16 to 19. In proofs/Laws.antt: `accepted-legal` and `legal-accepted`, so exactly the legal scripts are accepted; `first-fault`, so a refused record is the first with a fault
 abbrev pub checkedScript : List ℕ → Numbered (Unit {0})
-checkedScript s = andThen (checkedLength (length s)) (checkedRecords s)
+checkedScript s = andThen (checkedLength (length s)) (checkedFrom s 0 (recordsIn s))
 
 -- 'The table of refusals': the numbers of a script's faults
 abbrev pub faultNumbered : ScriptFault → Numbered (Unit {0})

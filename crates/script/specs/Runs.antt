@@ -1,4 +1,4 @@
--- What a run of a script answers and leaves: the chip's own calls, record after record. Assumes nothing.
+-- What a run of a script answers and leaves, by the chip's own calls, record after record: document 01, 'Script answers' and 'The table of refusals'. Assumes nothing.
 use Rattle.computed.specs.Prelude.{ℕ, zero, suc, _+_, _*_, _/_, _%_, false, not, List, [], _∷_, _++_, _≡_, eqb, length, replicate, pos, natAbs, if_then_else_}
 use Rattle.refusals.specs.Numbered.{Numbered, accepted, refused, andThen, unless}
 use Rattle.calendar.specs.Stated.{dateTime}
@@ -7,11 +7,10 @@ use Rattle.diagnostics.specs.declared.I2cDiagnostic.{I2cDiagnostic}
 use Rattle.diagnostics.specs.declared.I2cDiagnosticKind.the-variants.{ReadOnly}
 use Rattle.ds3231.specs.Calls.{sound, chipOn, Answered, replied, copied, bus, chipAfter, storeAfter, answer}
 use Rattle.ds3231.specs.declared.Ds3231.{Ds3231}
-use Rattle.ds3231.specs.declared.Ds3231Config.{Ds3231Config}
 use Rattle.ds3231.specs.declared.Event.{Event}
 use Rattle.ds3231.specs.declared.Event.the-variants.{Start, Write, Read, Stop}
 use Rattle.ds3231.specs.declared.Reply as Reply
-use Rattle.script.specs.Records.{instantOf, kindOf, valueOf, recordsIn, checkedLength, checkedRecords, faultNumbered}
+use Rattle.script.specs.Records.{instantOf, kindOf, valueOf, recordsIn, checkedLength, checkedFrom, faultNumbered}
 use Rattle.script.specs.declared.runs.RunAnswer.{RunAnswer}
 use Rattle.script.specs.declared.runs.RunAnswer.the-variants.{Done, NotSound, StoreLength, AnswersLength, Script}
 
@@ -35,12 +34,11 @@ answerByte (accepted (replied y)) = replyByte y
 answerByte (accepted (copied n)) = 0
 answerByte (refused n vs) = 0
 
--- a chip and its store
 pub record Held : Type 0 where
   pub chip : Ds3231
   pub store : List I2cDiagnostic
 
--- after the first i records
+-- the chip and its store after the first i records
 unfoldable pub heldAt : List ℕ → Held → ℕ → Held
 heldAt s h zero = h
 heldAt s h (suc i) =
@@ -66,29 +64,26 @@ runNumbered (Script f) = faultNumbered f
 
 -- 'The table of refusals': 14, 13, 15, then record by record 16 to 19; `room` is how many answer bytes are lent
 unfoldable pub checkedRun : List ℕ → ℕ → Numbered (Unit {0})
-checkedRun s room = andThen (checkedLength (length s)) (if eqb room (recordsIn s) then checkedRecords s else refused 15 [])
+checkedRun s room = andThen (checkedLength (length s)) (if eqb room (recordsIn s) then checkedFrom s 0 (recordsIn s) else refused 15 [])
 
 -- 'The table of refusals': 10, 11, then those
 unfoldable pub runVerdict : Held → List ℕ → ℕ → Numbered (Unit {0})
 runVerdict h s room = if not (sound (h .chip)) then refused 10 [] else if not (eqb (length (h .store)) 256) then refused 11 [] else checkedRun s room
 
--- a run: its answer, the chip, the store and the answer bytes after it; one that is refused leaves all three as they were
+-- a run: its answer, and the chip, the store and the answer bytes after it. 'The table of refusals': refusals change nothing
 pub record Ran (h : Held) (s : List ℕ) (a : List ℕ) (r : RunAnswer) (c′ : Ds3231) (st′ : List I2cDiagnostic) (a′ : List ℕ) : Type 0 where
   pub answers : runNumbered r ≡ runVerdict h s (length a)
   pub chip : c′ ≡ unless (runVerdict h s (length a)) (heldAt s h (recordsIn s) .chip) (h .chip)
   pub store : st′ ≡ unless (runVerdict h s (length a)) (heldAt s h (recordsIn s) .store) (h .store)
   pub bytes : a′ ≡ unless (runVerdict h s (length a)) (answersTo s h (recordsIn s)) a
 
--- 'Script answers': 2026-01-01T00:00:00, oscillator not stopped, 100 quarters
-abbrev pub clockrunConfig : Ds3231Config
-clockrunConfig = record { start = dateTime 2026 1 1 0 0 0; «oscillator_stopped» = false; «temperature_quarters» = pos 100 }
-
--- which records stand in the store of that power-on is left free, since none waits
+-- what stands in the records of a store at power-on: it is left free, since none waits
 abbrev pub unwritten : I2cDiagnostic
 unwritten = report 0 (ReadOnly 0)
 
+-- 'Script answers': power-on at 2026-01-01T00:00:00, oscillator not stopped, 100 quarters
 abbrev pub clockrunHeld : Held
-clockrunHeld = record { chip = chipOn clockrunConfig; store = replicate 256 unwritten }
+clockrunHeld = record { chip = chipOn (record { start = dateTime 2026 1 1 0 0 0; «oscillator_stopped» = false; «temperature_quarters» = pos 100 }); store = replicate 256 unwritten }
 
 -- 'Script answers': the host's number, 0, or the refusal number times 65,536 plus the record, which counts as 0 for 13 to 15
 abbrev pub hostNumber : Numbered (Unit {0}) → ℕ

@@ -5,20 +5,20 @@ use Rattle.listing.specs.Text.{header, eventLine, diagnosticLines, droppedLine,
 use Rattle.script.specs.Records.{instantOf, kindOf, valueOf, recordsIn, checkedScript}
 use Rattle.script.specs.Runs.{Held, heldAt, answerAt, clockrunHeld}
 
--- the lines of the first n events: the answer of record i is the one on the chip after the first i records
+-- 'Script answers': a line an event, of the first n; the answer of record i is the one on the chip after the first i records
 unfoldable pub eventLines : List ℕ → ℕ → List ℕ
 eventLines s zero = []
 eventLines s (suc n) = eventLines s n ++ eventLine (instantOf s n) (kindOf s n) (valueOf s n) (answerAt s clockrunHeld n)
 
--- a chip's diagnostics: the records that wait, oldest first, then the dropped count
+-- 'Script answers': the diagnostics that wait, oldest first, then the dropped count
 abbrev pub diagnosticsText : Held → List ℕ
 diagnosticsText h = diagnosticLines (take (h .chip .diagnostics .waiting) (h .store)) ++ droppedLine (h .chip .diagnostics .dropped)
 
--- the listing of a script that ran
+-- 'Script answers': what is printed for a script that ran
 abbrev pub ranListing : List ℕ → List ℕ
 ranListing s = header ++ eventLines s (recordsIn s) ++ diagnosticsText (heldAt s clockrunHeld (recordsIn s))
 
--- by the verdict: a refused script prints its refusal alone
+-- 'Script answers': a refused script prints only its refusal
 abbrev pub listingBy : Numbered (Unit {0}) → List ℕ → List ℕ
 listingBy (accepted u) s = ranListing s
 listingBy (refused n []) s = refusedLine n []

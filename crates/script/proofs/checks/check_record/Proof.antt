@@ -5,9 +5,10 @@ use mathlib.Core.Bool.{true, false}
 use mathlib.Core.List.{List}
 use mathlib.Core.Path.{_≡_, sym, _∙_}
 use native.Mathlib.Omega.{arith}
-use borrow.Author.Tests.{lt-ltb, le-ltb, eq-eqb, ne-eqb}
+use lib.Dec.{ltb}
+use borrow.Author.Tests.{lt-ltb, le-ltb}
 use borrow.Author.Needs.{needs}
-use Rattle.script.specs.Records.{littleEndian, kindOf, valueOf, padded, badValue, recordFault, checkedFrom}
+use Rattle.script.specs.Records.{littleEndian, kindOf, valueOf, badValue, recordFault, checkedFrom}
 use Rattle.script.proofs.Bytes.{half}
 use Rattle.script.proofs.checks.check_record.Statement.{statement}
 use Rattle.script.proofs.checks.check_record.Tie as tie
@@ -15,11 +16,11 @@ use Rattle.script.proofs.checks.check_record.Tie as tie
 -- r is the number of bytes 8 to 15, k the kind, l its largest half
 module _ (s : List ℕ) (i r : ℕ) (is-half : r ≡ littleEndian s (16 * i + 8) 8) (k l : ℕ) (is : k ≡ kindOf s i)
     (largest : (l ≤ 65535) × ((v : ℕ) → k + 256 * v ≤ l → badValue k v ≡ false) × ((v : ℕ) → v ≤ 255 → badValue k v ≡ false → k + 256 * v ≤ l)) where
-  good : r ≤ l → (badValue k (valueOf s i) ≡ false) × (padded s i ≡ true)
-  good h = (largest .1 (valueOf s i) (omega (arith, half s i)), eq-eqb (littleEndian s (16 * i + 10) 6) 0 (omega (arith, half s i, largest .0)))
+  good : r ≤ l → (badValue k (valueOf s i) ≡ false) × (ltb 0 (littleEndian s (16 * i + 10) 6) ≡ false)
+  good h = (largest .1 (valueOf s i) (omega (arith, half s i)), le-ltb 0 (littleEndian s (16 * i + 10) 6) (omega (arith, half s i, largest .0)))
 
-  bad-padding : (v : ℕ) → v ≡ valueOf s i → v ≤ 255 → l < r → badValue k v ≡ false → padded s i ≡ false
-  bad-padding v e b h g = ne-eqb (littleEndian s (16 * i + 10) 6) 0 (λ z. omega (arith, half s i, z, largest .2 v b g))
+  bad-padding : (v : ℕ) → v ≡ valueOf s i → v ≤ 255 → l < r → badValue k v ≡ false → ltb 0 (littleEndian s (16 * i + 10) 6) ≡ true
+  bad-padding v e b h g = lt-ltb 0 (littleEndian s (16 * i + 10) 6) (omega (arith, half s i, largest .2 v b g))
 
 kind-requires : tie.Need-kind-requires
 kind-requires c κs = search needs
@@ -46,13 +47,6 @@ value-requires c κs = search needs
 is-bad-value-requires : tie.Need-is-bad-value-requires
 is-bad-value-requires c κs = search needs
 
-returns-2 : tie.Need-returns-2
-unfolding recordFault checkedFrom
-returns-2 c =
-    let v = c .before .before in
-    let k = v .before .before .before .before in
-    rw (← k .before .kind .ensures, le-ltb _ _ (k .if1 .left), ← v .value .ensures, ← c .before .is-bad-value .ensures, c .if3 .taken)
-
 returns-3 : tie.Need-returns-3
 unfolding recordFault checkedFrom
 returns-3 c =
@@ -62,6 +56,13 @@ returns-3 c =
     let a = k .before .before .before .args in
     let g = bad-padding (a .script .now) (a .i) _ (l .before .number8 .ensures) _ _ (k .before .kind .ensures) (l .largest-half .ensures) _ (v .value .ensures) (omega arith) (v .before .if2 .taken) (sym (c .before .is-bad-value .ensures) ∙ c .if3 .left) in
     rw (← k .before .kind .ensures, le-ltb _ _ (k .if1 .left), ← v .value .ensures, ← c .before .is-bad-value .ensures, c .if3 .left, g)
+
+returns-2 : tie.Need-returns-2
+unfolding recordFault checkedFrom
+returns-2 c =
+    let v = c .before .before in
+    let k = v .before .before .before .before in
+    rw (← k .before .kind .ensures, le-ltb _ _ (k .if1 .left), ← v .value .ensures, ← c .before .is-bad-value .ensures, c .if3 .taken)
 
 instant-requires : tie.Need-instant-requires
 instant-requires c κs = search needs

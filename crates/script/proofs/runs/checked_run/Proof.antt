@@ -3,7 +3,7 @@
 use mathlib.Core.Path.{sym, ap, _∙_}
 use Rattle.script.specs.Records.{checkNumbered}
 use Rattle.script.specs.Runs.{checkedRun}
-use Rattle.script.proofs.RunVerdicts.{fault-answer}
+use Rattle.script.proofs.CheckVerdicts.{fault-stands}
 use borrow.Author.Needs.{needs}
 use Rattle.script.proofs.runs.checked_run.Statement.{statement}
 use Rattle.script.proofs.runs.checked_run.Tie as tie
@@ -25,7 +25,7 @@ returns c = c .checked-room .ensures
 
 returns-2 : tie.Need-returns-2
 unfolding checkedRun
-returns-2 c = rw (← (c .before .before .before .check-length .ensures), c .before .fault .given .1) (fault-answer (c .before .fault .given .0 .0) _)
+returns-2 c = rw (← (c .before .before .before .check-length .ensures), c .before .fault .given .1) (fault-stands (c .before .fault .given .0 .0) _)
 
 pub checked-run-spec : {M : Type 1} → statement M
 checked-run-spec =

@@ -1,7 +1,8 @@
 // The DS3231 real-time clock: its structs, the bus events and their replies. What its calls mean, document 01's model, the
 // exact time and the report total are definitions and theorems; no function.
-// To read it: of specs/ `Clock`, `Timing`, `Registers`, `Calls`, then `Model`, `Exact` and `Total`; docs/EXACT-TIME.md says the
-// theorem in plain words. Its proof is `proofs/ExactTime.antt`, and `proofs/Witness.antt` shows that it is not empty.
+// To read it: of specs/ `Clock`, `Timing`, `Registers`, `Calls`, then `Model`, `Exact` and `Total`; `Changed` has the parts that
+// chip and model say each for itself. docs/EXACT-TIME.md says the theorem in plain words; its proof is
+// `proofs/ExactTime.antt`, and `proofs/Witness.antt` shows that it is not empty.
 use calendar::DateTime;
 use diagnostics::Diagnostics;
 

@@ -79,6 +79,7 @@ powerOn f = andThen (checked (f .start)) (andThen (checkedQuarters (f .«tempera
 abbrev pub checkedChip : Ds3231 → Numbered (Unit {0})
 checkedChip c = if sound c then accepted tt else refused 10 []
 
+-- 'The table of refusals': `now` and the dropped count 10
 abbrev pub nowAnswer : Ds3231 → ℕ → Numbered DateTime
 nowAnswer c t = andThen (checkedChip c) (accepted (timeAt (c .timing .clock) t))
 

@@ -92,6 +92,7 @@ module _ (f : Ds3231Config) (c₀ : Ds3231) where
   abbrev pub answerTo : (calls : List Call) → TimeRead calls → Numbered Answered
   answerTo calls r = answer (bus (r .store) (Read (r .acknowledged) (r .at))) (after (r .before) .chip)
 
+  -- 'Shown time and exact time': one claim about the whole list, not one per call
   pub record Holds (calls : List Call) : Type 0 where
     -- the events are the bus calls that are lent 256 records
     pub feed : events c₀ calls ≡ fullyLent calls

@@ -125,6 +125,7 @@ partSecond (at t) first m = 0
 abbrev pub dateSet : List Accepted → ℕ → Model → DateTime
 dateSet l first m = clamped (dateBy l (timeOf (wholeSecond m first)))
 
+-- 'Shown time and exact time': a transaction with at least one accepted time byte sets the count, at its STOP or at the next START
 abbrev pub closedBy : List Accepted → Model → Model
 closedBy [] m = m
 closedBy (a ∷ l) m =

@@ -60,6 +60,7 @@ controlWritten b t g = record {
 abbrev pub statusWritten : ℕ → Registers → Registers
 statusWritten b g = record { alarms = g .alarms; control = g .control; status = bitOr (bitAnd (bitAnd (g .status) b) 0x83) (bitAnd b 0x08); «conversion_end» = g .«conversion_end»; aging = g .aging; «temperature_quarters» = g .«temperature_quarters»; «int_sqw_reported» = g .«int_sqw_reported» }
 
+-- 'Register bytes': 0x10 aging, as written
 abbrev pub agingWritten : ℕ → Registers → Registers
 agingWritten b g = record { alarms = g .alarms; control = g .control; status = g .status; «conversion_end» = g .«conversion_end»; aging = b; «temperature_quarters» = g .«temperature_quarters»; «int_sqw_reported» = g .«int_sqw_reported» }
 

@@ -1,4 +1,4 @@
--- Need not be believed: what an event by value promises. It is an equation with `step` of ds3231/specs/Calls.antt, part by part; `called` in ds3231_bus and the run in script make of it what the calls promise (`keeps` of ds3231_bus/proofs/OutcomeLaws.antt, `turn-kept` of script/proofs/Turns.antt). Assumes nothing.
+-- Need not be believed: what an event by value promises. It is an equation with `step` of ds3231/specs/Calls.antt, part by part; `called` in ds3231_bus and the run in script make of it what the calls promise (`keeps` of ds3231_bus/proofs/OutcomeLaws.antt, `turn` of script/proofs/Turns.antt). Assumes nothing.
 use Rattle.computed.specs.Prelude.{List, [], _∷_, _≡_}
 use Rattle.diagnostics.specs.declared.I2cDiagnostic.{I2cDiagnostic}
 use Rattle.ds3231.specs.Calls.{Step, stepChip}

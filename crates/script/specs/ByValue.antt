@@ -1,4 +1,4 @@
--- Need not be believed: the promises of functions that are no calls of document 01. `run` and `run_values`, whose promise is `Ran`, consume those on stores (`shows` in proofs/Rows.antt); `listing` of script_listing consumes `recordAt`, and promises an equation with `listingOf`. Assumes nothing.
+-- Need not be believed: the promises of functions that are no calls of document 01. `run` and `run_values`, whose promise is `Ran`, consume those on stores (`shows` in proofs/Rows.antt); `listing` of script_listing/src/lib.rt consumes `recordAt`, and promises an equation with `listingOf` of script_listing/specs/Listing.antt. Assumes nothing.
 use Rattle.computed.specs.Prelude.{ℕ, cond, List, _≡_, ltb, eqb, length, if_then_else_}
 use Rattle.diagnostics.specs.declared.I2cDiagnostic.{I2cDiagnostic}
 use Rattle.ds3231.specs.declared.Ds3231.{Ds3231}

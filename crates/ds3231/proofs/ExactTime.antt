@@ -22,7 +22,7 @@ use Rattle.ds3231.specs.Timing.{shownAt, latch, pointed, inPhase}
 use Rattle.ds3231.specs.Registers.{otherByte}
 use Rattle.ds3231.specs.Calls.{inQuarters, sound, timingOn, chipOn, checkedQuarters, powerOn, registerAnswer, written, hasRead, step, stepChip, replied, Call, bus, taking, lentStore, tooShort, verdict, chipBy, chipAfter, answeredBy, answer}
 use Rattle.ds3231.specs.Model.{Stage, reads, Model, isReads, fed, modelOn}
-use Rattle.ds3231.specs.Exact.{eventsBy, events, fullyLent, instant, NeverFall, lastInstant, Watched, marks, watchedBy, watched, after, TimeRead, answerTo, Holds, ExactTime}
+use Rattle.ds3231.specs.Exact.{eventsBy, events, fullyLent, modelAfter, instant, NeverFall, lastInstant, Watched, marks, watchedBy, watched, after, TimeRead, answerTo, Holds, ExactTime}
 use Rattle.ds3231.specs.Total.{chipAfterAll}
 use Rattle.ds3231.specs.declared.Clock.{Clock}
 use Rattle.ds3231.specs.declared.Phase.{Phase}
@@ -154,17 +154,13 @@ follows-run [] w t h s f = s
 follows-run (k ∷ ks) w t h s f = follows-next (verdict k (w .chip)) k ks w t h s (λ x u. follows-run ks x u) f
 
 -- the model is fed the events
-abbrev pub modelAfter : Model → List Event → Model
-modelAfter m [] = m
-modelAfter m (e ∷ es) = modelAfter (fed e m) es
-
 fed-next : (v : Numbered (Unit {0})) (k : Call) (ks : List Call) (w : Watched) → ((x : Watched) → watched x ks .model ≡ modelAfter (x .model) (events (x .chip) ks))
     → watched (watchedBy v k w) ks .model ≡ modelAfter (w .model) (eventsBy v k (events (unless v (chipBy k (w .chip)) (w .chip)) ks))
 fed-next (refused n vs) k ks w rest = rest w
 fed-next (accepted u) (bus l e) ks w rest = rest (watchedBy (accepted u) (bus l e) w)
 fed-next (accepted u) (taking l o) ks w rest = rest (watchedBy (accepted u) (taking l o) w)
 
-pub fed-events : (ks : List Call) (w : Watched) → watched w ks .model ≡ modelAfter (w .model) (events (w .chip) ks)
+fed-events : (ks : List Call) (w : Watched) → watched w ks .model ≡ modelAfter (w .model) (events (w .chip) ks)
 fed-events [] w = refl
 fed-events (k ∷ ks) w = fed-next (verdict k (w .chip)) k ks w (λ x. fed-events ks x)
 
@@ -290,6 +286,7 @@ module _ (f : Ds3231Config) (v : InRange (f .start)) (q : inQuarters (f .«tempe
   holds calls =
       record {
         feed = feed-run calls c₀ (on-sound f v q);
+        fed-alone = fed-events calls watchedOn ∙ ap (modelAfter (modelOn f)) (feed-run calls c₀ (on-sound f v q));
         answers-register = λ r.
             let w = after f c₀ (r .before) in
             let s = stands (r .before) in (

@@ -24,14 +24,14 @@ use Rattle.ds3231.specs.Numbers.{nanos, range, day}
 use Rattle.ds3231.specs.Calls.{inQuarters, checkedQuarters, chipOn, powerOn, replied, Call, bus, taking, lentStore, tooShort, verdict}
 use Rattle.ds3231.specs.Model.{reads, Model, exact, dateWith, clamped, offsetWith, wraps, modelOn}
 use Rattle.ds3231.proofs.Follows.{offset-same, offset-gives}
-use Rattle.ds3231.specs.Exact.{events, fullyLent, after, TimeRead, answerTo}
+use Rattle.ds3231.specs.Exact.{events, fullyLent, modelAfter, after, TimeRead, answerTo}
 use Rattle.ds3231.specs.declared.Ds3231Config.{Ds3231Config}
 use Rattle.ds3231.specs.declared.Event.{Event}
 use Rattle.ds3231.specs.declared.Event.the-variants.{Start, Write, Read, Stop}
 use Rattle.ds3231.specs.declared.Reply.the-variants.{Byte}
 use Rattle.ds3231.proofs.Counting.{whole-count}
 use Rattle.ds3231.specs.Exact.{NeverFall, instant}
-use Rattle.ds3231.proofs.ExactTime.{modelAfter, fed-events, verdict-is, after-power-on, exact-time}
+use Rattle.ds3231.proofs.ExactTime.{verdict-is, after-power-on, exact-time}
 use Rattle.computed.proofs.Claim.{first, rest}
 use mathlib.Core.Bool.{not, _&&_}
 use lib.Dec.{T, eqb, leb→le}
@@ -103,9 +103,7 @@ abbrev fedOn : List Event → Model
 fedOn es = modelAfter (modelOn config) es
 
 model-is : (ks : List Call) (es : List Event) → fullyLent ks ≡ es → after config (chipOn config) ks .model ≡ fedOn es
-model-is ks es e =
-    fed-events ks (record { chip = chipOn config; model = modelOn config; marked = chipOn config; at = 0 })
-    ∙ ap (modelAfter (modelOn config)) (exact-time config (chipOn config) on ks .feed ∙ e)
+model-is ks es e = exact-time config (chipOn config) on ks .fed-alone ∙ ap (modelAfter (modelOn config)) e
 
 -- the verdict on a call after any others
 judged : (ks : List Call) (k : Call) → verdict k (after config (chipOn config) ks .chip)

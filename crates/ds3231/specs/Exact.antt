@@ -25,6 +25,11 @@ fullyLent [] = []
 fullyLent (bus s e ∷ ks) = if eqb (length s) 256 then e ∷ fullyLent ks else fullyLent ks
 fullyLent (taking s o ∷ ks) = fullyLent ks
 
+-- the model after events
+abbrev pub modelAfter : Model → List Event → Model
+modelAfter m [] = m
+modelAfter m (e ∷ es) = modelAfter (fed e m) es
+
 -- the instant of an event; instants that never fall, from one on; the latest of them
 abbrev pub instant : Event → ℕ
 instant (Start a r t) = t
@@ -94,8 +99,9 @@ module _ (f : Ds3231Config) (c₀ : Ds3231) where
 
   -- 'Shown time and exact time': one claim about the whole list, not one per call
   pub record Holds (calls : List Call) : Type 0 where
-    -- the events are the bus calls that are lent 256 records
+    -- the events are the bus calls that are lent 256 records, and the model is fed these alone
     pub feed : events c₀ calls ≡ fullyLent calls
+    pub fed-alone : after calls .model ≡ modelAfter (modelOn f) (fullyLent calls)
     -- a READ of the time answers what `register` answers at the mark
     pub answers-register : (r : TimeRead calls) → let w = after (r .before) in
         (b : ℕ) × (answerTo calls r ≡ accepted (replied (Byte b))) × (registerAnswer (w .marked) (w .model .pointer) (w .at) ≡ accepted b)

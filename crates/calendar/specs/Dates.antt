@@ -1,4 +1,4 @@
--- Need not be believed: `equations` (specs/Dates.antt) equates each definition with one of gregorian/specs/Times.antt at a `DateTime`, and `in-range-accepted` and `accepted-in-range` (proofs/Laws.antt) `InRange` with `checked`. No crate above can open the other five. Assumes nothing.
+-- Need not be believed: `equations` (specs/Dates.antt) equates each definition with one of gregorian/specs/Times.antt at a `DateTime`, `nearest` with that of gregorian/specs/Nearest.antt, and `in-range-accepted` and `accepted-in-range` (proofs/Laws.antt) `InRange` with `checked`. No crate above can open the other five. Assumes nothing.
 use Rattle.computed.specs.Prelude.{ℕ, _≡_, refl}
 use Rattle.refusals.specs.Numbered.{Numbered}
 use Rattle.gregorian.specs.Times.{checkedTime, secondsTo, timeAfter, weekdayOn}

@@ -1,4 +1,4 @@
--- What the crates above may name of the calendar, and cannot open where it is no abbreviation.
+-- Need not be believed: nothing is defined here. What the crates above may name of the calendar. They can open none of it but the abbreviations `dateTime`, `withDay` and `InRange`: the others are shut, or of a crate that they do not list.
 pub use Rattle.gregorian.specs.Calendar.{leap, monthLength}
 pub use Rattle.gregorian.specs.DayNumbers.{dayNumber}
 pub use Rattle.gregorian.specs.Times.{checkedSeconds}

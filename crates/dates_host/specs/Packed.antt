@@ -1,4 +1,4 @@
--- The numbers that a host reads: a date, its seconds, or a refusal. Assumes nothing.
+-- The numbers that a host reads of dates, which document 01 does not ask for: a date, its seconds, or a refusal without its values. Assumes nothing.
 use Prim.Native.Nat.{ℕ, _+_, _*_, _^_}
 use Rattle.refusals.specs.Numbered.{Numbered, accepted, refused}
 use Rattle.calendar.specs.declared.DateTime.{DateTime}

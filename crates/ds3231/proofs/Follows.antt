@@ -16,8 +16,8 @@ use Rattle.calendar.specs.declared.DateTime.{DateTime}
 use Rattle.fields.specs.Table.{Meaning, undefined, sets, meaning, timeBytes}
 use Rattle.ds3231.specs.Numbers.{nanos, range, day}
 use Rattle.ds3231.specs.Clock.{secondsAt, timeAt, weekdayAt, secondStart}
-use Rattle.ds3231.specs.Changed.{offsetFor, changedTime, changedWeekday, changedMode, nextPointer, phaseFor}
-use Rattle.ds3231.specs.Timing.{isDefined, setsSeconds, opened, noted, clockFrom, latch, inPhase, pointed, commit, accept}
+use Rattle.ds3231.specs.Changed.{offsetFor, changedTime, changedWeekday, changedMode, nextPointer}
+use Rattle.ds3231.specs.Timing.{phaseFor, isDefined, setsSeconds, opened, noted, clockFrom, latch, inPhase, pointed, commit, accept}
 use Rattle.ds3231.specs.Calls.{written, hasRead, step}
 use Rattle.ds3231.specs.Exact.{instant}
 use Rattle.ds3231.specs.declared.Ds3231.{Ds3231}

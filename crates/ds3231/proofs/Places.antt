@@ -7,8 +7,8 @@ use mathlib.Core.Path.{_≡_, refl, sym, ap, _∙_, subst}
 use borrow.Author.Tests.{leb-true, leb-false, lt-ltb, le-ltb}
 use lib.Dec.{leb, ltb, eqb}
 use Rattle.computed.specs.Choice.{if_then_else_}
-use Rattle.ds3231.specs.Timing.{latch, inPhase, pointed}
-use Rattle.ds3231.specs.Changed.{nextPointer, phaseFor}
+use Rattle.ds3231.specs.Timing.{latch, inPhase, pointed, phaseFor}
+use Rattle.ds3231.specs.Changed.{nextPointer}
 use Rattle.ds3231.specs.Calls.{written, hasRead, step}
 use Rattle.ds3231.specs.Model.{Stage, unaddressed, awaitsPointer, writes, drops, reads, Accepted, Model, closedBy, latching, standing, pointing, movedPointer, writeIn, isReads, stageFor, fed}
 use Rattle.ds3231.specs.declared.Phase.{Phase}

@@ -10,8 +10,8 @@ use Rattle.diagnostics.specs.declared.I2cDiagnostic.{I2cDiagnostic}
 use Rattle.diagnostics.specs.declared.I2cDiagnosticKind.the-variants.{NotModelled, ReadOnly, NoSuchRegister, Undefined}
 use Rattle.ds3231.specs.Numbers.{range}
 use Rattle.ds3231.specs.Clock.{timeAt, clockSet}
-use Rattle.ds3231.specs.Timing.{isDefined, shownAt, latch, inPhase, pointed, commit, accept}
-use Rattle.ds3231.specs.Changed.{nextPointer, phaseFor}
+use Rattle.ds3231.specs.Timing.{isDefined, shownAt, latch, inPhase, pointed, commit, accept, phaseFor}
+use Rattle.ds3231.specs.Changed.{nextPointer}
 use Rattle.ds3231.specs.Registers.{byteAt, enablesOutput, registersWritten}
 use Rattle.ds3231.specs.Types.{PendingTime, Phase, Released, Pointer, Writing, Reading, Ignoring, Timing, Registers, Ds3231, Ds3231Config, Event, Start, Write, Read, Stop, Reply, Acknowledge, Byte, Done}
 

@@ -1,8 +1,7 @@
--- Need not be believed: the chip's own side of what the model says again. `date-same`, `weekday-same`, `mode-same` and `offset-same` of proofs/Follows.antt and `next-moved` and `stage-addressed` of proofs/Places.antt equate each with the model's. Assumes nothing.
+-- Need not be believed: the chip's own side of what the model says again. `date-same`, `weekday-same`, `mode-same` and `offset-same` of proofs/Follows.antt and `next-moved` of proofs/Places.antt equate each with the model's. Assumes nothing.
 use Rattle.computed.specs.Prelude.{ℕ, _+_, _-_, _%_, Bool, leb, eqb, if_then_else_}
 use Rattle.calendar.specs.declared.DateTime.{DateTime}
 use Rattle.fields.specs.Table.{Meaning, undefined, sets}
-use Rattle.ds3231.specs.Types.{Phase, Released, Pointer, Reading}
 
 -- the time: a month byte also sets the century, a year byte keeps it
 abbrev pub changedTime : Meaning → DateTime → DateTime
@@ -35,7 +34,3 @@ offsetFor weekday days = (weekday - 1 + 7 - days % 7) % 7
 -- the pointer goes up by one, from 0x12 to 0
 abbrev pub nextPointer : ℕ → ℕ
 nextPointer r = if leb 0x12 r then 0 else r + 1
-
--- the phase after a START: only 0x68 is addressed
-abbrev pub phaseFor : ℕ → Bool → Phase
-phaseFor address read = if eqb address 0x68 then (if read then Reading else Pointer) else Released

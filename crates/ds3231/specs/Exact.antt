@@ -30,7 +30,7 @@ abbrev pub modelAfter : Model → List Event → Model
 modelAfter m [] = m
 modelAfter m (e ∷ es) = modelAfter (fed e m) es
 
--- the instant of an event; instants that never fall, from one on; the latest of them
+-- the instant of an event; instants that never fall, from one on; the last of them
 abbrev pub instant : Event → ℕ
 instant (Start a r t) = t
 instant (Write b t) = t

@@ -84,12 +84,12 @@ abbrev pub weekdayBy : List Accepted → ℕ → ℕ
 weekdayBy [] w = w
 weekdayBy (a ∷ l) w = weekdayBy l (weekdayWith (meaning (a .register) (a .value)) w)
 
--- 'Register bytes': the offset, 0 to 6, with which the committed date has the weekday
+-- 'Register bytes': the offset, 0 to 6, with which the committed date has the weekday, as `offsetWith` computes it
 pub record IsOffset (days weekday offset : ℕ) : Type 0 where
   pub at-most : offset ≤ 6
   pub gives : weekdayFor days offset ≡ weekday
 
--- computed: the first of 0 to 6 that gives the weekday, and for what is no weekday 7. Theorem `the-offset` of proofs/Follows.antt: it is the one
+-- the first of 0 to 6 that gives the weekday, and for what is no weekday 7. Theorem `the-offset` of proofs/Follows.antt: of a weekday it is the one offset
 abbrev pub firstOffset : List ℕ → ℕ → ℕ → ℕ
 firstOffset [] days w = 7
 firstOffset (o ∷ os) days w = if eqb (weekdayFor days o) w then o else firstOffset os days w
@@ -180,7 +180,7 @@ writeIn drops b t m = m
 writeIn awaitsPointer b t m = if leb b 0x12 then standing writes (pointing b m) else standing drops m
 writeIn writes b t m = pointing (movedPointer (m .pointer)) (keeping (m .pointer) b t m)
 
--- 'Shown time and exact time': every READ addressed for reading, at whatever register, moves the pointer up by one, from 0x12 to 0, where it latches anew
+-- addressed for reading; and a READ that then moves the pointer from 0x12 to 0
 abbrev pub isReads : Stage → Bool
 isReads unaddressed = false
 isReads awaitsPointer = false
@@ -191,6 +191,7 @@ isReads reads = true
 abbrev pub wraps : Model → Bool
 wraps m = isReads (m .stage) && leb 0x12 (m .pointer)
 
+-- 'Shown time and exact time': every READ addressed for reading, at whatever register, moves the pointer up by one, from 0x12 to 0, where it latches anew
 abbrev pub readBy : ℕ → Model → Model
 readBy t m =
     if wraps m then latching t (pointing 0 m)

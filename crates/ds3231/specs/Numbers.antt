@@ -9,6 +9,6 @@ nanos = 1_000_000_000
 abbrev pub day : ℕ
 day = 86_400
 
--- 'Dates, seconds, weekdays': 73,049 days of 86,400 seconds, from 2000-01-01 to the end of 2199, after which the clock begins again
+-- 'Dates, seconds, weekdays': 73,049 days of 86,400 seconds; 'Register bytes': after 2199-12-31 comes 2000-01-01
 abbrev pub range : ℕ
 range = 6_311_433_600

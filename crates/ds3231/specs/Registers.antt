@@ -11,7 +11,7 @@ abbrev pub lowByte : ℤ → ℕ
 lowByte (pos n) = n % 256
 lowByte (negsuc n) = 255 - n % 256
 
--- 'Register bytes': the temperature, the quarters shifted right by 2 as a signed number, low eight bits; their lowest two bits, in bits 7 and 6
+-- 'Register bytes': the temperature, the quarters shifted right by 2 as a signed number, low eight bits (`shrZ q 4` divides by 4, rounding down); their lowest two bits, in bits 7 and 6
 abbrev pub temperatureHigh : ℤ → ℕ
 temperatureHigh q = lowByte (shrZ q 4)
 

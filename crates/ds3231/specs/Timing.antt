@@ -4,7 +4,7 @@ use Rattle.calendar.specs.Stated.{nearest}
 use Rattle.fields.specs.Table.{Meaning, undefined, sets, timeBytes}
 use Rattle.ds3231.specs.Changed.{changedTime, changedWeekday, changedMode}
 use Rattle.ds3231.specs.Clock.{timeAt, weekdayAt, secondStart, clockSet}
-use Rattle.ds3231.specs.Types.{Clock, PendingTime, Phase, Timing}
+use Rattle.ds3231.specs.Types.{Clock, PendingTime, Phase, Released, Pointer, Reading, Timing}
 
 -- ---- an accepted byte, by what it says
 
@@ -19,7 +19,7 @@ setsSeconds (sets r n flag) = eqb r 0
 
 -- ---- the pending time
 
--- 'Shown time and exact time': as the first accepted byte finds it, the clock's whole second and weekday there
+-- 'Shown time and exact time': as the first accepted byte finds it, the clock's whole second there; 'Register bytes': and its weekday
 abbrev pub opened : Clock → ℕ → PendingTime
 opened k t = record { time = timeAt k t; weekday = weekdayAt k t }
 
@@ -33,7 +33,7 @@ clockFrom p t = clockSet (nearest (p .time)) (p .weekday) t
 
 -- ---- the steps
 
--- the seven time bytes at t, in the hour mode last written
+-- the seven time bytes at t, in the hour mode of the last accepted hour byte
 abbrev pub shownAt : Timing → ℕ → List ℕ
 shownAt c t = timeBytes (timeAt (c .clock) t) (weekdayAt (c .clock) t) (c .«twelve_hour»)
 
@@ -60,7 +60,7 @@ commit c = record {
   «pending_at» = c .«pending_at»;
 }
 
--- 'Register bytes': a byte at a time register; an undefined one changes no field, the hour mode changes at once, the time only when the transaction ends. 'Shown time and exact time': the pending time holds at the last seconds byte, or without one at the start of the second of the first accepted byte
+-- 'Register bytes': a byte at a time register; an undefined one changes no field, the hour mode changes at once, the time only when the transaction ends. A second of the pending time begins at the last seconds byte, or without one where the clock's own did at the first accepted byte
 abbrev pub accept : Meaning → ℕ → Timing → Timing
 accept m t c = record {
   phase = c .phase;
@@ -72,3 +72,7 @@ accept m t c = record {
   pending = if isDefined m then noted m (if c .«is_pending» then c .pending else opened (c .clock) t) else c .pending;
   «pending_at» = if isDefined m then (if setsSeconds m then t else if c .«is_pending» then c .«pending_at» else secondStart (c .clock) t) else c .«pending_at»;
 }
+
+-- 'Acknowledgements': the phase after a START; only 0x68 is addressed
+abbrev pub phaseFor : ℕ → Bool → Phase
+phaseFor address read = if eqb address 0x68 then (if read then Reading else Pointer) else Released

@@ -1,6 +1,6 @@
 // The four events, each on the whole chip, as the Rust has them.
 ghost use mathlib.Core.Path.{_≡_};
-ghost use Rattle.ds3231.specs.Changed.{phaseFor};
+ghost use Rattle.ds3231.specs.Timing.{phaseFor};
 ghost use Rattle.ds3231.specs.Calls.{repliedOnly, started, written, hasRead, stopped, step as stepBy};
 ghost use Rattle.ds3231.specs.declared.Phase.the-variants.{Pointer, Writing};
 ghost use Rattle.diagnostics.specs.Reports.{countedAll};

@@ -1,4 +1,4 @@
--- Need not be believed: no contract of a call of the chip cites it, and the contract of `decode` (src/lib.rt) equates what `decode` answers with `meaning` (specs/Table.antt). Assumes nothing.
+-- Need not be believed: no contract of a call of the chip cites it, and the contract of `decode` (src/lib.rt) equates what `decode` answers with `meaning` (specs/Table.antt). Who calls `decode` or `from_bcd`, which are no calls of document 01, reads here what they answer. Assumes nothing.
 use Rattle.computed.specs.Prelude.{ℕ, false, _&&_, leb, if_then_else_}
 use Rattle.fields.specs.Table.{Meaning, undefined, sets, fromDigits, decimal}
 use Rattle.fields.specs.declared.Field.{Field}

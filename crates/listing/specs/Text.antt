@@ -5,7 +5,7 @@ use Rattle.diagnostics.specs.declared.I2cDiagnostic.{I2cDiagnostic}
 
 -- ---- numbers
 
--- the decimal digits of n, with no zero in front: at most `places` of them
+-- the decimal digits of n, with no zero in front, where n has at most `places` of them
 abbrev pub digitsIn : ℕ → ℕ → List ℕ
 digitsIn zero n = []
 digitsIn (suc places) n = if ltb n 10 then ((48 + n) ∷ []) else (digitsIn places (n / 10) ++ ((48 + n % 10) ∷ []))

@@ -10,7 +10,7 @@ unfoldable pub eventLines : List ℕ → ℕ → List ℕ
 eventLines s zero = []
 eventLines s (suc n) = eventLines s n ++ eventLine (instantOf s n) (kindOf s n) (valueOf s n) (answerAt s clockrunHeld n)
 
--- 'Script answers': the diagnostics that wait, oldest first, then the dropped count
+-- 'Diagnostics': the records that wait, oldest first; 'Script answers': then the dropped count
 abbrev pub diagnosticsText : Held → List ℕ
 diagnosticsText h = diagnosticLines (take (h .chip .diagnostics .waiting) (h .store)) ++ droppedLine (h .chip .diagnostics .dropped)
 

@@ -16,15 +16,14 @@ use Rattle.computed.proofs.Choice.{chosen}
 use Rattle.calendar.specs.Stated.{InRange, checked, secondsOf}
 use Rattle.calendar.proofs.Laws.{accepted-in-range, time-in-range, seconds-of-time, weekday-formula}
 use Rattle.diagnostics.specs.declared.I2cDiagnostic.{I2cDiagnostic}
-use Rattle.ds3231.specs.Clock.{secondsAt, timeAt}
+use Rattle.ds3231.specs.Clock.{secondsAt}
 use Rattle.ds3231.specs.Changed.{offsetFor}
 use Rattle.ds3231.specs.Timing.{shownAt, latch, pointed, inPhase}
 use Rattle.ds3231.specs.Registers.{otherByte}
-use Rattle.ds3231.specs.Calls.{inQuarters, sound, timingOn, chipOn, checkedQuarters, powerOn, registerAnswer, written, hasRead, step, stepChip, replied, Call, bus, taking, lentStore, tooShort, verdict, chipBy, chipAfter, answeredBy, answer}
-use Rattle.ds3231.specs.Model.{Stage, reads, Model, isReads, fed, modelOn}
+use Rattle.ds3231.specs.Calls.{inQuarters, sound, timingOn, chipOn, checkedQuarters, powerOn, shownTime, registerAnswer, written, hasRead, step, stepChip, replied, Call, bus, taking, lentStore, tooShort, verdict, chipBy, chipAfter, answeredBy, answer}
+use Rattle.ds3231.specs.Model.{Stage, reads, Model, isReads, modelOn}
 use Rattle.ds3231.specs.Exact.{eventsBy, events, fullyLent, modelAfter, instant, NeverFall, lastInstant, Watched, marks, watchedBy, watched, after, TimeRead, answerTo, Holds, ExactTime}
 use Rattle.ds3231.specs.Total.{chipAfterAll}
-use Rattle.ds3231.specs.declared.Clock.{Clock}
 use Rattle.ds3231.specs.declared.Phase.{Phase}
 use Rattle.ds3231.specs.declared.Phase.the-variants.{Released, Pointer, Writing, Reading, Ignoring}
 use Rattle.ds3231.specs.declared.Timing.{Timing}
@@ -242,12 +241,12 @@ register-answer c r t w h =
     register-byte c r t (sound-test c w) (omega arith)
     ∙ ap (λ (e : Bool). accepted (if e then getD (shownAt (c .timing) t) r 0 else otherByte (c .registers) r t)) (le-leb r 0x06 h)
 
--- what the clock shows is valid, and its seconds are the clock's
-shown-valid : (k : Clock) (t : ℕ) → InRange (timeAt k t)
-shown-valid k t = time-in-range (secondsAt k t) (seconds-in k t)
+-- what `now` shows is valid, and its seconds are the clock's
+shown-valid : (c : Ds3231) (t : ℕ) → InRange (shownTime c t)
+shown-valid c t = time-in-range (secondsAt (c .timing .clock) t) (seconds-in (c .timing .clock) t)
 
-shown-seconds : (k : Clock) (t : ℕ) → secondsOf (timeAt k t) ≡ secondsAt k t
-shown-seconds k t = seconds-of-time (secondsAt k t)
+shown-seconds : (c : Ds3231) (t : ℕ) → secondsOf (shownTime c t) ≡ secondsAt (c .timing .clock) t
+shown-seconds c t = seconds-of-time (secondsAt (c .timing .clock) t)
 
 module _ (f : Ds3231Config) (v : InRange (f .start)) (q : inQuarters (f .«temperature_quarters») ≡ true) where
   abbrev c₀ : Ds3231
@@ -300,13 +299,13 @@ module _ (f : Ds3231Config) (v : InRange (f .start)) (q : inQuarters (f .«tempe
             answers calls r ∙ ap₂ (λ (l : List ℕ) (x : ℕ). accepted (replied (Byte (getD l x 0)))) (sym (w .latched)) (sym (w .pointer));
         latches = λ h. sym (follows calls h .latched);
         shows = λ h t g.
-            let k = after f c₀ calls .chip .timing .clock in
+            let c = after f c₀ calls .chip in
             let w = follows calls h .clock in
-            let x = exact-is k (after f c₀ calls .model) (lastInstant 0 (events c₀ calls)) w t (le-trans (w .since) g) in
-            let y = shown-seconds k t in (
-              timeAt k t,
-              ap (λ (b : Bool). andThen (if b then accepted tt else refused 10 []) (accepted (timeAt k t))) (sound-test (after f c₀ calls .chip) (stands calls .sound-chip)),
-              record { valid = shown-valid k t; at-most = omega arith; within = omega arith },
+            let x = exact-is (c .timing .clock) (after f c₀ calls .model) (lastInstant 0 (events c₀ calls)) w t (le-trans (w .since) g) in
+            let y = shown-seconds c t in (
+              shownTime c t,
+              ap (λ (b : Bool). andThen (if b then accepted tt else refused 10 []) (accepted (shownTime c t))) (sound-test c (stands calls .sound-chip)),
+              record { valid = shown-valid c t; at-most = omega arith; within = omega arith },
             );
       }
 

@@ -79,9 +79,13 @@ powerOn f = andThen (checked (f .start)) (andThen (checkedQuarters (f .«tempera
 abbrev pub checkedChip : Ds3231 → Numbered (Unit {0})
 checkedChip c = if sound c then accepted tt else refused 10 []
 
+-- the time that `now` shows
+abbrev pub shownTime : Ds3231 → ℕ → DateTime
+shownTime c t = timeAt (c .timing .clock) t
+
 -- 'The table of refusals': `now` and the dropped count 10
 abbrev pub nowAnswer : Ds3231 → ℕ → Numbered DateTime
-nowAnswer c t = andThen (checkedChip c) (accepted (timeAt (c .timing .clock) t))
+nowAnswer c t = andThen (checkedChip c) (accepted (shownTime c t))
 
 abbrev pub droppedAnswer : Ds3231 → Numbered ℕ
 droppedAnswer c = andThen (checkedChip c) (accepted (c .diagnostics .dropped))

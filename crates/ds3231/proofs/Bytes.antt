@@ -8,7 +8,7 @@ use borrow.Author.Tests.{eqb-true}
 use lib.Dec.{leb, eqb}
 use Rattle.computed.specs.Choice.{if_then_else_}
 use Rattle.computed.proofs.Choice.{chosen}
-use Rattle.calendar.specs.Stated.{InRange, withDay}
+use Rattle.calendar.specs.Stated.{InRange}
 use Rattle.calendar.proofs.Laws.{month-bounds}
 use Rattle.calendar.specs.declared.DateTime.{DateTime}
 use Rattle.fields.specs.Table.{Meaning, undefined, sets, meaning}
@@ -19,7 +19,7 @@ use Rattle.ds3231.specs.Changed.{offsetFor, changedTime, changedWeekday}
 use Rattle.ds3231.specs.Timing.{noted}
 use Rattle.ds3231.specs.declared.Clock.{Clock}
 use Rattle.ds3231.specs.declared.PendingTime.{PendingTime}
-use Rattle.ds3231.proofs.Facts.{TimeIn, PendingIn}
+use Rattle.ds3231.proofs.Facts.{YearIn, TimeIn, first-in, PendingIn}
 
 -- a field in its range
 abbrev pub MeaningIn : Meaning → Type 0
@@ -38,23 +38,9 @@ meaning-in r b = by (meaning r b) refl
 by-register : (P : ℕ → Type 0) (r k : ℕ) {x y : ℕ} → (r ≡ k → P x) → P y → P (if eqb r k then x else y)
 by-register P r k f g = chosen P (eqb r k) (λ e. f (eqb-true r k e)) (λ e. g)
 
--- a year of either century
-abbrev YearIn : ℕ → Type 0
-YearIn y = (2000 ≤ y) × (y ≤ 2199)
-
 century : (c : Bool) (y : ℕ) → y ≤ 99 → YearIn (2000 + (if c then 100 else 0) + y)
 century true y h = omega arith
 century false y h = omega arith
-
--- valid on the first of its month, by the ranges of the other fields
-first-in : (t : DateTime) → YearIn (t .year) → (1 ≤ t .month) × (t .month ≤ 12) → t .hour ≤ 23 → t .minute ≤ 59 → t .second ≤ 59 → InRange (withDay 1 t)
-first-in t y m h n s =
-    record {
-      date = record { year-from = y .0; year-to = y .1; month-from = m .0; month-to = m .1; day-from = omega arith; day-to = omega (arith, month-bounds (t .year) (t .month)) };
-      hour-to = h;
-      minute-to = n;
-      second-to = s;
-    }
 
 changed-in : (m : Meaning) → MeaningIn m → (t : DateTime) → TimeIn t → TimeIn (changedTime m t)
 changed-in undefined i t h = h

@@ -1,11 +1,11 @@
 -- What power-on and the calls that ask answer, in the numbers of 'The table of refusals', each by the cases of its enum, and what power-on promises. Assumes nothing.
-use Rattle.computed.specs.Prelude.{ℕ, false, [], _∷_, _≡_, pos}
+use Rattle.computed.specs.Prelude.{ℕ, false, [], _∷_, _≡_, pos, replicate}
 use Rattle.refusals.specs.Numbered.{Numbered, accepted, refused}
 use Rattle.calendar.specs.Answers.{refusedBy}
 use Rattle.calendar.specs.Stated.{dateTime}
 use Rattle.calendar.specs.declared.DateTime.{DateTime}
-use Rattle.ds3231.specs.Timing.{pointed}
-use Rattle.ds3231.specs.Calls.{chipOn, powerOn}
+use Rattle.ds3231.specs.declared.Phase.the-variants.{Released}
+use Rattle.ds3231.specs.Calls.{powerOn}
 use Rattle.ds3231.specs.declared.Ds3231.{Ds3231}
 use Rattle.ds3231.specs.declared.Ds3231Config.{Ds3231Config}
 use Rattle.ds3231_chip.specs.declared.PowerOnAnswer.{PowerOnAnswer}
@@ -17,11 +17,13 @@ use Rattle.ds3231_chip.specs.declared.DroppedResult as DroppedResult
 
 -- ---- power-on
 
--- the chip of a refused power-on, which document 01 leaves free: one on at 2000-01-01 whose pointer names no register, so that it is not sound, and every call on it gives 10
+-- the chip of a refused power-on, which document 01 leaves free: its pointer names no register, so that it is not sound, and every call on it gives 10
 abbrev pub noChip : Ds3231
-noChip =
-    let c = chipOn (record { start = dateTime 2000 1 1 0 0 0; «oscillator_stopped» = false; «temperature_quarters» = pos 0 }) in
-    record { timing = pointed 0xFF (c .timing); registers = c .registers; diagnostics = c .diagnostics }
+noChip = record {
+  timing = record { phase = Released; pointer = 0xFF; clock = record { «base_seconds» = 0; «base_at» = 0; «weekday_offset» = 0 }; «twelve_hour» = false; latched = replicate 7 0; «is_pending» = false; pending = record { time = dateTime 2000 1 1 0 0 0; weekday = 1 }; «pending_at» = 0 };
+  registers = record { alarms = replicate 7 0; control = 0; status = 0; «conversion_end» = 0; aging = 0; «temperature_quarters» = pos 0; «int_sqw_reported» = false };
+  diagnostics = record { waiting = 0; dropped = 0 };
+}
 
 abbrev pub poweredAnswer : PowerOnAnswer → Ds3231 → Numbered Ds3231
 poweredAnswer On c = accepted c

@@ -11,6 +11,7 @@ use calendar::DateTime;
 use calendar::Validity;
 use calendar::weekday_of_day;
 use diagnostics::Diagnostics;
+use ds3231::Clock;
 use ds3231::Ds3231;
 use ds3231::Ds3231Config;
 use ds3231::PendingTime;
@@ -143,24 +144,57 @@ fn status_on(oscillator_stopped: bool) -> u8
     }
 }
 
-// The chip of a refused power-on, which is not sound: one on at 2000-01-01, but its pointer names no register.
+// The chip of a refused power-on, which is not sound: its pointer names no register.
 fn no_chip() -> Ds3231
     ensures { λ r. ⌜ r ≡ noChip ⌝ }
 {
-    let start = DateTime {
+    let timing = no_timing();
+    let alarms = [0; 7];
+    let registers = Registers {
+        alarms,
+        control: 0,
+        status: 0,
+        conversion_end: 0,
+        aging: 0,
+        temperature_quarters: 0,
+        int_sqw_reported: false,
+    };
+    let diagnostics = Diagnostics {
+        waiting: 0,
+        dropped: 0,
+    };
+    Ds3231 {
+        timing,
+        registers,
+        diagnostics,
+    }
+}
+
+fn no_timing() -> Timing
+    ensures { λ r. ⌜ r ≡ noChip .timing ⌝ }
+{
+    let clock = Clock {
+        base_seconds: 0,
+        base_at: 0,
+        weekday_offset: 0,
+    };
+    let pending = no_pending(DateTime {
         year: 2000,
         month: 1,
         day: 1,
         hour: 0,
         minute: 0,
         second: 0,
-    };
-    let config = Ds3231Config {
-        start,
-        oscillator_stopped: false,
-        temperature_quarters: 0,
-    };
-    let mut chip = chip_on(config);
-    chip.timing.pointer = 0xFF;
-    chip
+    });
+    let latched = [0; 7];
+    Timing {
+        phase: Phase::Released,
+        pointer: 0xFF,
+        clock,
+        twelve_hour: false,
+        latched,
+        is_pending: false,
+        pending,
+        pending_at: 0,
+    }
 }

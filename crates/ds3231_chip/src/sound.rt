@@ -1,10 +1,7 @@
 // Soundness, part by part.
 ghost use mathlib.Core.Path.{_≡_};
-ghost use Rattle.refusals.specs.Numbered.{isAccepted};
-ghost use Rattle.calendar.specs.Stated.{checked};
 ghost use Rattle.ds3231.specs.Calls.{soundTime, soundPending, soundTiming, inQuarters, soundRegisters, sound};
 use calendar::DateTime;
-use calendar::Validity;
 use diagnostics::MAX_DIAGNOSTICS;
 use ds3231::Ds3231;
 use ds3231::PendingTime;
@@ -21,24 +18,15 @@ const STATUS_BITS: u8 = 0x8B;
 fn sound_time(time: DateTime) -> bool
     ensures { λ r. ⌜ r ≡ soundTime time ⌝ }
 {
-    let first = DateTime {
-        year: time.year,
-        month: time.month,
-        day: 1,
-        hour: time.hour,
-        minute: time.minute,
-        second: time.second,
-    };
-    is_valid(first) & (1 <= time.day) & (time.day <= 31)
-}
-
-fn is_valid(time: DateTime) -> bool
-    ensures { λ r. ⌜ r ≡ isAccepted (checked time) ⌝ }
-{
-    match time.validate() {
-        Validity::Valid => true,
-        Validity::Invalid(_) => false,
-    }
+    (2000 <= time.year)
+        & (time.year <= 2199)
+        & (1 <= time.month)
+        & (time.month <= 12)
+        & (1 <= time.day)
+        & (time.day <= 31)
+        & (time.hour <= 23)
+        & (time.minute <= 59)
+        & (time.second <= 59)
 }
 
 fn sound_pending(pending: PendingTime) -> bool

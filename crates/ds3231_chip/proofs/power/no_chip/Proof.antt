@@ -1,15 +1,14 @@
 -- `ds3231_chip::power::no_chip` meets its contract.
 -- Assumes nothing.
-use native.Mathlib.Omega.{arith}
-use Rattle.calendar.proofs.Laws.{month-bounds}
+use borrow.Author.Needs.{needs}
 use Rattle.ds3231_chip.proofs.power.no_chip.Statement.{statement}
 use Rattle.ds3231_chip.proofs.power.no_chip.Tie as tie
 
-chip-on-requires : tie.Need-chip-on-requires
-chip-on-requires c κs = omega (arith, month-bounds 2000 1)
+no-timing-requires : tie.Need-no-timing-requires
+no-timing-requires c κs = search needs
 
 returns : tie.Need-returns
-returns c = rw (c .before .chip-on .ensures)
+returns c = rw (c .no-timing .ensures)
 
 pub no-chip-spec : {M : Type 1} → statement M
-no-chip-spec = tie.close (tie.spec chip-on-requires returns)
+no-chip-spec = tie.close (tie.spec no-timing-requires returns)

@@ -39,9 +39,6 @@ long : (y m : ℕ) → m < 256 → key m ≡ false → monthLength y m ≡ 31
 unfolding monthLength months
 long y m h e = sym (ap (λ (b : Bool). if b then 31 else getD (months (leap y)) (m - 1) 31) e) ∙ usual-is (leap y) m h
 
-is-leap-requires : tie.Need-is-leap-requires
-is-leap-requires c κs = search needs
-
 returns : tie.Need-returns
 returns c = sym (february _ _ true (c .before .before .match .keys1) (sym (c .before .is-leap .ensures) ∙ c .if1 .taken))
 
@@ -64,4 +61,4 @@ returns-4 c =
     (simp (ne-eqb _ _ (r .0 .1), ne-eqb _ _ (λ e. r .1 (inl e)), ne-eqb _ _ (λ e. r .1 (inr (inl e))), ne-eqb _ _ (λ e. r .1 (inr (inr (inl e)))), ne-eqb _ _ (λ e. r .1 (inr (inr (inr e)))))))
 
 pub days-in-month-spec : {M : Type 1} → statement M
-days-in-month-spec = tie.close (tie.spec is-leap-requires returns returns-2 returns-3 returns-4)
+days-in-month-spec = tie.close (tie.spec (λ c κs. search needs) returns returns-2 returns-3 returns-4)

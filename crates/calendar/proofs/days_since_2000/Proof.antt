@@ -13,9 +13,6 @@ use Rattle.calendar.proofs.days_since_2000.Tie as tie
 day-small : (y m d : ℕ) → ValidDate y m d → d ≤ 31
 day-small y m d h = omega (arith, month-bounds y m)
 
-years-before-requires : tie.Need-years-before-requires
-years-before-requires c κs = search needs
-
 -- the year and the month that are passed stay in their ranges
 passed : (c : tie.After-years-before) → (c .years-before .result ≤ 1) × (3 ≤ c .before .args .month + 12 * c .years-before .result) × (c .before .args .month + 12 * c .years-before .result ≤ 14)
 passed c = before-bounds _ _ (c .before .pre .month-from) (c .before .pre .month-to) (c .years-before .ensures)
@@ -47,7 +44,7 @@ pub days-since-2000-spec : {M : Type 1} → statement M
 days-since-2000-spec =
     tie.close
     (tie.spec
-    years-before-requires
+    (λ c κs. search needs)
     sub-march-days
     mul-march-days
     add-march-days

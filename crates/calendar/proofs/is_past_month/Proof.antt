@@ -11,11 +11,8 @@ use Rattle.calendar.proofs.is_past_month.Tie as tie
 returns : tie.Need-returns
 returns c = rw (le-ltb (monthLength (c .before .args .year) (c .before .args .month)) (c .before .args .day) (omega (arith, month-bounds (c .before .args .year) (c .before .args .month))))
 
-days-in-month-requires : tie.Need-days-in-month-requires
-days-in-month-requires c κs = search needs
-
 returns-2 : tie.Need-returns-2
 returns-2 c = rw (c .days-in-month .ensures)
 
 pub is-past-month-spec : {M : Type 1} → statement M
-is-past-month-spec = tie.close (tie.spec returns days-in-month-requires returns-2)
+is-past-month-spec = tie.close (tie.spec returns (λ c κs. search needs) returns-2)

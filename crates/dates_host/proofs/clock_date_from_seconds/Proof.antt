@@ -7,21 +7,6 @@ use borrow.Author.Needs.{needs}
 use Rattle.dates_host.proofs.clock_date_from_seconds.Statement.{statement}
 use Rattle.dates_host.proofs.clock_date_from_seconds.Tie as tie
 
-from-seconds-since-2000-requires : tie.Need-from-seconds-since-2000-requires
-from-seconds-since-2000-requires c κs = search needs
-
-enum-known-answer : tie.Need-enum-known-answer
-enum-known-answer c = search needs
-
-packed-requires : tie.Need-packed-requires
-packed-requires c κs = search needs
-
-enum-told : tie.Need-enum-told
-enum-told c = search needs
-
-refused-requires : tie.Need-refused-requires
-refused-requires c κs = search needs
-
 returns : tie.Need-returns
 returns c =
     c .packed .ensures ∙
@@ -36,10 +21,6 @@ pub clock-date-from-seconds-spec : {M : Type 1} → statement M
 clock-date-from-seconds-spec =
     tie.close
     (tie.spec
-    from-seconds-since-2000-requires
-    enum-known-answer
-    packed-requires
-    enum-told
-    refused-requires
+    (λ c κs. search needs) (λ c. search needs) (λ c κs. search needs) (λ c. search needs) (λ c κs. search needs)
     returns
     returns-2)

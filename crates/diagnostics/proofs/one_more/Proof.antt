@@ -5,14 +5,8 @@ use borrow.Author.Needs.{needs}
 use Rattle.diagnostics.proofs.one_more.Statement.{statement}
 use Rattle.diagnostics.proofs.one_more.Tie as tie
 
-add-counts : tie.Need-add-counts
-add-counts c = search needs
-
 returns : tie.Need-returns
 returns c = one-waits _ (c .before .if1 .taken)
-
-add-counts-2 : tie.Need-add-counts-2
-add-counts-2 c = search needs
 
 returns-2 : tie.Need-returns-2
 returns-2 c = one-dropped _ (c .before .before .before .if1 .left) (c .before .if2 .taken)
@@ -21,4 +15,4 @@ returns-3 : tie.Need-returns-3
 returns-3 c = none-dropped _ (c .before .before .if1 .left) (c .if2 .left) (search needs)
 
 pub one-more-spec : {M : Type 1} → statement M
-one-more-spec = tie.close (tie.spec add-counts returns add-counts-2 returns-2 returns-3)
+one-more-spec = tie.close (tie.spec (λ c. search needs) returns (λ c. search needs) returns-2 returns-3)

@@ -5,20 +5,11 @@ use Rattle.diagnostics.proofs.Lent.{not-sound, store-length, reports}
 use Rattle.diagnostics.proofs.reported.Statement.{statement}
 use Rattle.diagnostics.proofs.reported.Tie as tie
 
-refused-requires : tie.Need-refused-requires
-refused-requires c κs = search needs
-
 returns : tie.Need-returns
 returns c = not-sound _ _ _ (c .before .if1 .taken) _ (c .refused .ensures)
 
-refused-requires-2 : tie.Need-refused-requires-2
-refused-requires-2 c κs = search needs
-
 returns-2 : tie.Need-returns-2
 returns-2 c = store-length _ _ _ (c .before .before .if1 .left) (c .before .if2 .taken) _ (c .refused2 .ensures)
-
-one-more-requires : tie.Need-one-more-requires
-one-more-requires c κs = search needs
 
 returns-3 : tie.Need-returns-3
 returns-3 c = reports _ _ _ (c .before .before .if1 .left) (c .before .if2 .left) _ (c .one-more .ensures)
@@ -26,4 +17,4 @@ returns-3 c = reports _ _ _ (c .before .before .if1 .left) (c .before .if2 .left
 pub reported-spec : {M : Type 1} → statement M
 reported-spec =
     tie.close
-    (tie.spec refused-requires returns refused-requires-2 returns-2 one-more-requires returns-3)
+    (tie.spec (λ c κs. search needs) returns (λ c κs. search needs) returns-2 (λ c κs. search needs) returns-3)

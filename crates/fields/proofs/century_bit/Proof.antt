@@ -5,9 +5,6 @@ use borrow.Author.Needs.{needs}
 use Rattle.fields.proofs.century_bit.Statement.{statement}
 use Rattle.fields.proofs.century_bit.Tie as tie
 
-add-if1 : tie.Need-add-if1
-add-if1 c = search needs
-
 returns : tie.Need-returns
 returns c = simp (le-leb _ _ (c .if1 .taken))
 
@@ -15,4 +12,4 @@ returns-2 : tie.Need-returns-2
 returns-2 c = simp (lt-leb _ _ (c .if1 .left))
 
 pub century-bit-spec : {M : Type 1} → statement M
-century-bit-spec = tie.close (tie.spec add-if1 returns returns-2)
+century-bit-spec = tie.close (tie.spec (λ c. search needs) returns returns-2)

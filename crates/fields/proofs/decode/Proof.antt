@@ -50,57 +50,6 @@ years = plain 6 0 99 (λ b. refl) (λ n. rw (leb·zero n))
 next : {r : ℕ} (k : ℕ) → k ≤ r → (r ≡ k → ⊥) → k < r
 next k h n = omega arith
 
-from-bcd-within-requires : tie.Need-from-bcd-within-requires
-from-bcd-within-requires c κs = search needs
-
-enum-known-second : tie.Need-enum-known-second
-enum-known-second c = search needs
-
-enum-told : tie.Need-enum-told
-enum-told c = search needs
-
-from-bcd-within-requires-2 : tie.Need-from-bcd-within-requires-2
-from-bcd-within-requires-2 c κs = search needs
-
-enum-known-minute : tie.Need-enum-known-minute
-enum-known-minute c = search needs
-
-enum-told-2 : tie.Need-enum-told-2
-enum-told-2 c = search needs
-
-decode-hour-requires : tie.Need-decode-hour-requires
-decode-hour-requires c κs = search needs
-
-from-bcd-within-requires-3 : tie.Need-from-bcd-within-requires-3
-from-bcd-within-requires-3 c κs = search needs
-
-enum-known-weekday : tie.Need-enum-known-weekday
-enum-known-weekday c = search needs
-
-enum-told-3 : tie.Need-enum-told-3
-enum-told-3 c = search needs
-
-from-bcd-within-requires-4 : tie.Need-from-bcd-within-requires-4
-from-bcd-within-requires-4 c κs = search needs
-
-enum-known-day : tie.Need-enum-known-day
-enum-known-day c = search needs
-
-enum-told-4 : tie.Need-enum-told-4
-enum-told-4 c = search needs
-
-decode-month-requires : tie.Need-decode-month-requires
-decode-month-requires c κs = search needs
-
-from-bcd-within-requires-5 : tie.Need-from-bcd-within-requires-5
-from-bcd-within-requires-5 c κs = search needs
-
-enum-known-year : tie.Need-enum-known-year
-enum-known-year c = search needs
-
-enum-told-5 : tie.Need-enum-told-5
-enum-told-5 c = search needs
-
 returns : tie.Need-returns
 returns c = seconds .some-at _ _ _ _ (c .before .before .before .before .match .keys1) (c .before .before .before .from-bcd-within .ensures) (c .before .second .given .1)
 
@@ -148,23 +97,9 @@ pub decode-spec : {M : Type 1} → statement M
 decode-spec =
     tie.close
     (tie.spec
-    from-bcd-within-requires
-    enum-known-second
-    enum-told
-    from-bcd-within-requires-2
-    enum-known-minute
-    enum-told-2
-    decode-hour-requires
-    from-bcd-within-requires-3
-    enum-known-weekday
-    enum-told-3
-    from-bcd-within-requires-4
-    enum-known-day
-    enum-told-4
-    decode-month-requires
-    from-bcd-within-requires-5
-    enum-known-year
-    enum-told-5
+    (λ c κs. search needs) (λ c. search needs) (λ c. search needs) (λ c κs. search needs) (λ c. search needs) (λ c. search needs)
+    (λ c κs. search needs) (λ c κs. search needs) (λ c. search needs) (λ c. search needs) (λ c κs. search needs)
+    (λ c. search needs) (λ c. search needs) (λ c κs. search needs) (λ c κs. search needs) (λ c. search needs) (λ c. search needs)
     returns
     returns-2
     returns-3

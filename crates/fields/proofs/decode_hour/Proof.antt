@@ -56,35 +56,14 @@ half-day : (pm : Bool) → (if pm then 12 else 0) ≤ 12
 half-day true = omega arith
 half-day false = omega arith
 
-from-bcd-within-requires : tie.Need-from-bcd-within-requires
-from-bcd-within-requires c κs = search needs
-
-enum-known-hour : tie.Need-enum-known-hour
-enum-known-hour c = search needs
-
-enum-told : tie.Need-enum-told
-enum-told c = search needs
-
 returns : tie.Need-returns
 returns c = plain-some 2 0 23 hours _ _ (sym (c .before .hour .given .1) ∙ c .before .before .before .from-bcd-within .ensures) ∙ plain-hour _ (c .before .before .before .before .if1 .taken)
 
 returns-2 : tie.Need-returns-2
 returns-2 c = plain-none 2 0 23 hours _ (sym (c .enum-told .given .1) ∙ c .before .before .from-bcd-within .ensures) ∙ plain-hour _ (c .before .before .before .if1 .taken)
 
-from-bcd-within-requires-2 : tie.Need-from-bcd-within-requires-2
-from-bcd-within-requires-2 c κs = search needs
-
-enum-known-on-dial : tie.Need-enum-known-on-dial
-enum-known-on-dial c = search needs
-
-afternoon-requires : tie.Need-afternoon-requires
-afternoon-requires c κs = search needs
-
 add-t15 : tie.Need-add-t15
 add-t15 c = omega (arith, c .afternoon .ensures, half-day (bit 5 (c .before .before .before .before .before .before .args .byte)))
-
-enum-told-2 : tie.Need-enum-told-2
-enum-told-2 c = search needs
 
 returns-3 : tie.Need-returns-3
 returns-3 c = dial-some _ _ _ (sym (c .before .before .on-dial .given .1) ∙ c .before .before .before .before .from-bcd-within2 .ensures ∙ dial-is _ (search needs)) (c .afternoon .ensures) ∙ dial-hour _ (c .before .before .before .before .before .if1 .left)
@@ -96,15 +75,11 @@ pub decode-hour-spec : {M : Type 1} → statement M
 decode-hour-spec =
     tie.close
     (tie.spec
-    from-bcd-within-requires
-    enum-known-hour
-    enum-told
+    (λ c κs. search needs) (λ c. search needs) (λ c. search needs)
     returns
     returns-2
-    from-bcd-within-requires-2
-    enum-known-on-dial
-    afternoon-requires
+    (λ c κs. search needs) (λ c. search needs) (λ c κs. search needs)
     add-t15
-    enum-told-2
+    (λ c. search needs)
     returns-3
     returns-4)

@@ -58,15 +58,6 @@ month-none b e = by-none (isMonth b) (fromDigits (b % 32)) _ e
 returns : tie.Need-returns
 returns c = month-none _ (set-bits _ (search needs) (c .if1 .taken))
 
-from-bcd-within-requires : tie.Need-from-bcd-within-requires
-from-bcd-within-requires c κs = search needs
-
-enum-known-month : tie.Need-enum-known-month
-enum-known-month c = search needs
-
-enum-told : tie.Need-enum-told
-enum-told c = search needs
-
 returns-2 : tie.Need-returns-2
 returns-2 c = month-some _ _ (sym (c .before .month .given .1) ∙ c .before .before .before .from-bcd-within .ensures ∙ no-bits _ (search needs) (c .before .before .before .before .if1 .left))
 
@@ -76,4 +67,4 @@ returns-3 c = month-none _ (sym (c .enum-told .given .1) ∙ c .before .before .
 pub decode-month-spec : {M : Type 1} → statement M
 decode-month-spec =
     tie.close
-    (tie.spec returns from-bcd-within-requires enum-known-month enum-told returns-2 returns-3)
+    (tie.spec returns (λ c κs. search needs) (λ c. search needs) (λ c. search needs) returns-2 returns-3)

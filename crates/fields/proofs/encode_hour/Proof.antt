@@ -21,20 +21,8 @@ dial-hour : (h p k d : ℕ) (twelve : Bool) → twelve ≡ true → p ≡ (if le
 unfolding hourByte
 dial-hour h p k d twelve e f g i = ap₂ bitOr (ap (bitOr 0x40) f) (i ∙ ap toDigits g) ∙ ap (hourByte h) (sym e)
 
-to-bcd-requires : tie.Need-to-bcd-requires
-to-bcd-requires c κs = search needs
-
 returns : tie.Need-returns
 returns c = plain-hour _ _ _ (not-true _ (c .before .if1 .taken)) (c .to-bcd .ensures)
-
-pm-bit-requires : tie.Need-pm-bit-requires
-pm-bit-requires c κs = search needs
-
-on-dial-requires : tie.Need-on-dial-requires
-on-dial-requires c κs = search needs
-
-to-bcd-requires-2 : tie.Need-to-bcd-requires-2
-to-bcd-requires-2 c κs = search needs
 
 returns-2 : tie.Need-returns-2
 returns-2 c = dial-hour _ _ _ _ _ (not-false _ (c .before .before .before .if1 .left)) (c .before .before .pm-bit .ensures) (c .before .on-dial .ensures) (c .to-bcd2 .ensures)
@@ -42,4 +30,4 @@ returns-2 c = dial-hour _ _ _ _ _ (not-false _ (c .before .before .before .if1 .
 pub encode-hour-spec : {M : Type 1} → statement M
 encode-hour-spec =
     tie.close
-    (tie.spec to-bcd-requires returns pm-bit-requires on-dial-requires to-bcd-requires-2 returns-2)
+    (tie.spec (λ c κs. search needs) returns (λ c κs. search needs) (λ c κs. search needs) (λ c κs. search needs) returns-2)

@@ -14,15 +14,9 @@ use Rattle.fields.proofs.from_bcd.Tie as tie
 returns : tie.Need-returns
 returns c = ⊎-elim (λ w. no-tens _ (omega (arith, ltb-true))) (λ w. no-ones _ (omega (arith, ltb-true))) (c .if1 .came)
 
-mul-t6 : tie.Need-mul-t6
-mul-t6 c = search needs
-
-add-t7 : tie.Need-add-t7
-add-t7 c = search needs
-
 returns-2 : tie.Need-returns-2
 unfolding fromDigits
 returns-2 c = ap Some (omega arith) ∙ two-digits (c .before .before .args .byte) (omega (arith, ltb-false)) (omega (arith, ltb-false))
 
 pub from-bcd-spec : {M : Type 1} → statement M
-from-bcd-spec = tie.close (tie.spec returns mul-t6 add-t7 returns-2)
+from-bcd-spec = tie.close (tie.spec returns (λ c. search needs) (λ c. search needs) returns-2)

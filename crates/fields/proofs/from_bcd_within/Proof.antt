@@ -9,15 +9,6 @@ use borrow.Author.Needs.{needs}
 use Rattle.fields.proofs.from_bcd_within.Statement.{statement}
 use Rattle.fields.proofs.from_bcd_within.Tie as tie
 
-from-bcd-requires : tie.Need-from-bcd-requires
-from-bcd-requires c κs = search needs
-
-enum-known-value : tie.Need-enum-known-value
-enum-known-value c = search needs
-
-enum-told : tie.Need-enum-told
-enum-told c = search needs
-
 returns : tie.Need-returns
 returns c = on-within _ _ _ _ (sym (c .before .before .before .value .given .1) ∙ c .before .before .before .before .before .from-bcd .ensures) (omega (arith, leb-true)) (omega (arith, leb-true))
 
@@ -31,4 +22,4 @@ returns-3 c = on-none _ _ _ (sym (c .enum-told .given .1) ∙ c .before .before 
 
 pub from-bcd-within-spec : {M : Type 1} → statement M
 from-bcd-within-spec =
-    tie.close (tie.spec from-bcd-requires enum-known-value enum-told returns returns-2 returns-3)
+    tie.close (tie.spec (λ c κs. search needs) (λ c. search needs) (λ c. search needs) returns returns-2 returns-3)

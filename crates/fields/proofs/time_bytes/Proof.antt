@@ -6,30 +6,6 @@ use borrow.Author.Needs.{needs}
 use Rattle.fields.proofs.time_bytes.Statement.{statement}
 use Rattle.fields.proofs.time_bytes.Tie as tie
 
-century-bit-requires : tie.Need-century-bit-requires
-century-bit-requires c κs = search needs
-
-cast-two-digits : tie.Need-cast-two-digits
-cast-two-digits c = search needs
-
-to-bcd-requires : tie.Need-to-bcd-requires
-to-bcd-requires c κs = search needs
-
-to-bcd-requires-2 : tie.Need-to-bcd-requires-2
-to-bcd-requires-2 c κs = search needs
-
-encode-hour-requires : tie.Need-encode-hour-requires
-encode-hour-requires c κs = search needs
-
-to-bcd-requires-3 : tie.Need-to-bcd-requires-3
-to-bcd-requires-3 c κs = search needs
-
-to-bcd-requires-4 : tie.Need-to-bcd-requires-4
-to-bcd-requires-4 c κs = search needs
-
-to-bcd-requires-5 : tie.Need-to-bcd-requires-5
-to-bcd-requires-5 c κs = search needs
-
 returns : tie.Need-returns
 unfolding fieldByte timeBytes
 returns c = rw (
@@ -46,12 +22,6 @@ pub time-bytes-spec : {M : Type 1} → statement M
 time-bytes-spec =
     tie.close
     (tie.spec
-    century-bit-requires
-    cast-two-digits
-    to-bcd-requires
-    to-bcd-requires-2
-    encode-hour-requires
-    to-bcd-requires-3
-    to-bcd-requires-4
-    to-bcd-requires-5
+    (λ c κs. search needs) (λ c. search needs) (λ c κs. search needs) (λ c κs. search needs) (λ c κs. search needs)
+    (λ c κs. search needs) (λ c κs. search needs) (λ c κs. search needs)
     returns)

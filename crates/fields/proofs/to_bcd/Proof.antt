@@ -6,15 +6,9 @@ use borrow.Author.Needs.{needs}
 use Rattle.fields.proofs.to_bcd.Statement.{statement}
 use Rattle.fields.proofs.to_bcd.Tie as tie
 
-mul-result : tie.Need-mul-result
-mul-result c = search needs
-
-add-result : tie.Need-add-result
-add-result c = search needs
-
 returns : tie.Need-returns
 unfolding toDigits
 returns c = omega arith
 
 pub to-bcd-spec : {M : Type 1} → statement M
-to-bcd-spec = tie.close (tie.spec mul-result add-result returns)
+to-bcd-spec = tie.close (tie.spec (λ c. search needs) (λ c. search needs) returns)

@@ -8,23 +8,11 @@ use borrow.Author.Needs.{needs}
 use Rattle.listing.proofs.diagnostic_lines.Statement.{statement}
 use Rattle.listing.proofs.diagnostic_lines.Tie as tie
 
-at-most-256-requires : tie.Need-at-most-256-requires
-at-most-256-requires c κs = search needs
-
-mul-has-room : tie.Need-mul-has-room
-mul-has-room c = search needs
-
-has-room-requires : tie.Need-has-room-requires
-has-room-requires c κs = search needs
-
 returns : tie.Need-returns
 returns c = rw (← c .before .before .at-most-256 .ensures) (lacking (c .before .has-room .ensures) (c .if1 .taken))
 
 reports-requires : tie.Need-reports-requires
 reports-requires c κs = (omega (arith, min-le-right (c .before .before .before .before .before .args .count) 256), room _ _ _ (c .before .before .has-room .ensures) (c .before .if1 .left))
-
-same-length : tie.Need-same-length
-same-length c = search needs
 
 returns-2 : tie.Need-returns-2
 returns-2 c =
@@ -41,10 +29,8 @@ pub diagnostic-lines-spec : {M : Type 1} → statement M
 diagnostic-lines-spec =
     tie.close
     (tie.spec
-    at-most-256-requires
-    mul-has-room
-    has-room-requires
+    (λ c κs. search needs) (λ c. search needs) (λ c κs. search needs)
     returns
     reports-requires
-    same-length
+    (λ c. search needs)
     returns-2)

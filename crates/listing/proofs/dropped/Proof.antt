@@ -7,20 +7,8 @@ use borrow.Author.Needs.{needs}
 use Rattle.listing.proofs.dropped.Statement.{statement}
 use Rattle.listing.proofs.dropped.Tie as tie
 
-slice-aggregate-text : tie.Need-slice-aggregate-text
-slice-aggregate-text c = search needs
-
-text-requires : tie.Need-text-requires
-text-requires c κs = search needs
-
-decimal-requires : tie.Need-decimal-requires
-decimal-requires c κs = search needs
-
 byte-requires : tie.Need-byte-requires
 byte-requires c κs = omega (arith, after-decimal)
-
-same-length : tie.Need-same-length
-same-length c = search needs
 
 returns : tie.Need-returns
 returns c =
@@ -35,9 +23,7 @@ pub dropped-spec : {M : Type 1} → statement M
 dropped-spec =
     tie.close
     (tie.spec
-    slice-aggregate-text
-    text-requires
-    decimal-requires
+    (λ c. search needs) (λ c κs. search needs) (λ c κs. search needs)
     byte-requires
-    same-length
+    (λ c. search needs)
     returns)

@@ -7,9 +7,6 @@ use borrow.Author.Needs.{needs}
 use Rattle.listing.proofs.event.Statement.{statement}
 use Rattle.listing.proofs.event.Tie as tie
 
-decimal-requires : tie.Need-decimal-requires
-decimal-requires c κs = search needs
-
 byte-requires : tie.Need-byte-requires
 byte-requires c κs = omega (arith, after-decimal, after-event-word)
 
@@ -30,9 +27,6 @@ hex-requires-2 c κs = omega (arith, after-decimal, after-event-word)
 
 byte-requires-4 : tie.Need-byte-requires-4
 byte-requires-4 c κs = omega (arith, after-decimal, after-event-word)
-
-same-length : tie.Need-same-length
-same-length c = search needs
 
 returns : tie.Need-returns
 returns c =
@@ -55,7 +49,7 @@ pub event-spec : {M : Type 1} → statement M
 event-spec =
     tie.close
     (tie.spec
-    decimal-requires
+    (λ c κs. search needs)
     byte-requires
     event-word-requires
     byte-requires-2
@@ -63,5 +57,5 @@ event-spec =
     byte-requires-3
     hex-requires-2
     byte-requires-4
-    same-length
+    (λ c. search needs)
     returns)

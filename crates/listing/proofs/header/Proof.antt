@@ -8,14 +8,8 @@ use borrow.Author.Needs.{needs}
 use Rattle.listing.proofs.header.Statement.{statement}
 use Rattle.listing.proofs.header.Tie as tie
 
-has-room-requires : tie.Need-has-room-requires
-has-room-requires c κs = search needs
-
 returns : tie.Need-returns
 returns c = lacking (c .before .has-room .ensures) (c .if1 .taken)
-
-slice-aggregate-text : tie.Need-slice-aggregate-text
-slice-aggregate-text c = search needs
 
 text-requires : tie.Need-text-requires
 text-requires c κs =
@@ -25,13 +19,10 @@ text-requires c κs =
     let h = room (start .args .at) 48 (length (now (start .args .out))) (at-has-room .has-room .ensures) (at-if1 .if1 .left) in
     omega arith
 
-same-length : tie.Need-same-length
-same-length c = search needs
-
 returns-2 : tie.Need-returns-2
 returns-2 c = having (c .before .before .before .before .before .before .has-room .ensures) (c .before .before .before .before .before .if1 .left) (c .before .before .text .ensures)
 
 pub header-spec : {M : Type 1} → statement M
 header-spec =
     tie.close
-    (tie.spec has-room-requires returns slice-aggregate-text text-requires same-length returns-2)
+    (tie.spec (λ c κs. search needs) returns (λ c. search needs) text-requires (λ c. search needs) returns-2)

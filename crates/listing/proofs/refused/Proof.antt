@@ -11,15 +11,6 @@ use borrow.Author.Needs.{needs}
 use Rattle.listing.proofs.refused.Statement.{statement}
 use Rattle.listing.proofs.refused.Tie as tie
 
-slice-aggregate-text : tie.Need-slice-aggregate-text
-slice-aggregate-text c = search needs
-
-text-requires : tie.Need-text-requires
-text-requires c κs = search needs
-
-decimal-requires : tie.Need-decimal-requires
-decimal-requires c κs = search needs
-
 -- the refusal's number has at most three digits
 short : (start : tie.Start) → length (decimalOf (start .args .number)) ≤ 3
 short start = byte-length _ (start .fits .number .fits)
@@ -32,9 +23,6 @@ record-column-requires c κs = omega (arith, short (c .before .before .before .b
 
 byte-requires-2 : tie.Need-byte-requires-2
 byte-requires-2 c κs = omega (arith, short (c .before .before .before .before .before .before .before .before .before .before .before .before .before .before .before .before .before .before .before), after-record)
-
-same-length : tie.Need-same-length
-same-length c = search needs
 
 returns : tie.Need-returns
 returns c =
@@ -51,11 +39,9 @@ pub refused-spec : {M : Type 1} → statement M
 refused-spec =
     tie.close
     (tie.spec
-    slice-aggregate-text
-    text-requires
-    decimal-requires
+    (λ c. search needs) (λ c κs. search needs) (λ c κs. search needs)
     byte-requires
     record-column-requires
     byte-requires-2
-    same-length
+    (λ c. search needs)
     returns)

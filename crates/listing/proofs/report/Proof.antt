@@ -8,15 +8,6 @@ use borrow.Author.Needs.{needs}
 use Rattle.listing.proofs.report.Statement.{statement}
 use Rattle.listing.proofs.report.Tie as tie
 
-slice-aggregate-text : tie.Need-slice-aggregate-text
-slice-aggregate-text c = search needs
-
-text-requires : tie.Need-text-requires
-text-requires c κs = search needs
-
-decimal-requires : tie.Need-decimal-requires
-decimal-requires c κs = search needs
-
 byte-requires : tie.Need-byte-requires
 byte-requires c κs = omega (arith, after-decimal, after-report-word, after-columns)
 
@@ -31,9 +22,6 @@ columns-requires c κs = omega (arith, after-decimal, after-report-word, after-c
 
 byte-requires-3 : tie.Need-byte-requires-3
 byte-requires-3 c κs = omega (arith, after-decimal, after-report-word, after-columns)
-
-same-length : tie.Need-same-length
-same-length c = search needs
 
 returns : tie.Need-returns
 returns c =
@@ -55,13 +43,11 @@ pub report-spec : {M : Type 1} → statement M
 report-spec =
     tie.close
     (tie.spec
-    slice-aggregate-text
-    text-requires
-    decimal-requires
+    (λ c. search needs) (λ c κs. search needs) (λ c κs. search needs)
     byte-requires
     report-word-requires
     byte-requires-2
     columns-requires
     byte-requires-3
-    same-length
+    (λ c. search needs)
     returns)

@@ -41,8 +41,5 @@ add-result c = raised-fits _ (c .fits .quarters)
 cast-result-2 : tie.Need-cast-result-2
 cast-result-2 c = raised-casts _ (c .fits .quarters)
 
-returns : tie.Need-returns
-returns c = search needs
-
 pub quarters-number-spec : {M : Type 1} → statement M
-quarters-number-spec = tie.close (tie.spec cast-result add-result cast-result-2 returns)
+quarters-number-spec = tie.close (tie.spec cast-result add-result cast-result-2 (λ c. search needs))

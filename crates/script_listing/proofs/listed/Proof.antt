@@ -8,30 +8,12 @@ use borrow.Author.Needs.{needs}
 use Rattle.script_listing.proofs.listed.Statement.{statement}
 use Rattle.script_listing.proofs.listed.Tie as tie
 
-run-from-power-on-requires : tie.Need-run-from-power-on-requires
-run-from-power-on-requires c κs = search needs
-
-header-requires : tie.Need-header-requires
-header-requires c κs = search needs
-
 event-lines-requires : tie.Need-event-lines-requires
 event-lines-requires c κs =
     let at-header = c .before .before .before .before in
     let at-run = at-header .before .before .before .before .before .before in
     let start = at-run .before .before .before .before .before in
     (leaves (start .pre .0) (start .pre .1) (at-run .run-from-power-on .ensures) .bytes, after-header (start .args .script .now) (start .pre .0) (start .pre .2) (at-header .header .kept .0) (at-header .header .ensures))
-
-diagnostic-lines-requires : tie.Need-diagnostic-lines-requires
-diagnostic-lines-requires c κs = search needs
-
-dropped-line-requires : tie.Need-dropped-line-requires
-dropped-line-requires c κs = search needs
-
-same-length : tie.Need-same-length
-same-length c = search needs
-
-same-length-2 : tie.Need-same-length-2
-same-length-2 c = search needs
 
 returns : tie.Need-returns
 returns c =
@@ -49,11 +31,7 @@ pub listed-spec : {M : Type 1} → statement M
 listed-spec =
     tie.close
     (tie.spec
-    run-from-power-on-requires
-    header-requires
+    (λ c κs. search needs) (λ c κs. search needs)
     event-lines-requires
-    diagnostic-lines-requires
-    dropped-line-requires
-    same-length
-    same-length-2
+    (λ c κs. search needs) (λ c κs. search needs) (λ c. search needs) (λ c. search needs)
     returns)

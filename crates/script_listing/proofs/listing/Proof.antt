@@ -10,23 +10,8 @@ use Rattle.script_listing.proofs.listing.Tie as tie
 returns : tie.Need-returns
 returns c = no-room (c .before .before .before .args .script .now) _ (c .if1 .taken)
 
-check-requires : tie.Need-check-requires
-check-requires c κs = search needs
-
-enum-told : tie.Need-enum-told
-enum-told c = search needs
-
 ran-requires : tie.Need-ran-requires
 ran-requires c κs = (sym (c .before .before .before .check .ensures) ∙ ap checkNumbered (c .before .enum-told .given .1), c .before .before .before .before .if1 .left)
-
-enum-known-fault : tie.Need-enum-known-fault
-enum-known-fault c = search needs
-
-refusal-requires : tie.Need-refusal-requires
-refusal-requires c κs = search needs
-
-same-length : tie.Need-same-length
-same-length c = search needs
 
 returns-2 : tie.Need-returns-2
 returns-2 c =
@@ -34,9 +19,6 @@ returns-2 c =
     let at-told = at-ran .before .before in
     let at-check = at-told .before .before in
     when-legal _ (at-check .before .if1 .left) (sym (at-check .check .ensures) ∙ ap checkNumbered (at-told .enum-told .given .1)) (at-ran .ran .ensures)
-
-same-length-2 : tie.Need-same-length-2
-same-length-2 c = search needs
 
 returns-3 : tie.Need-returns-3
 returns-3 c =
@@ -50,12 +32,9 @@ listing-spec =
     tie.close
     (tie.spec
     returns
-    check-requires
-    enum-told
+    (λ c κs. search needs) (λ c. search needs)
     ran-requires
-    enum-known-fault
-    refusal-requires
-    same-length
+    (λ c. search needs) (λ c κs. search needs) (λ c. search needs)
     returns-2
-    same-length-2
+    (λ c. search needs)
     returns-3)

@@ -15,13 +15,7 @@ slice-aggregate-listed c = let start = c .before .before .before in sym (part-le
 listed-requires : tie.Need-listed-requires
 listed-requires c κs = let start = c .before .before .before .before in (start .pre .0, part-length (start .args .script .now) (start .pre .0), start .pre .1)
 
-same-length : tie.Need-same-length
-same-length c = search needs
-
-returns : tie.Need-returns
-returns c = search needs
-
 pub ran-spec : {M : Type 1} → statement M
 ran-spec =
     tie.close
-    (tie.spec array-borrow-prefix-space slice-aggregate-listed listed-requires same-length returns)
+    (tie.spec array-borrow-prefix-space slice-aggregate-listed listed-requires (λ c. search needs) (λ c. search needs))

@@ -16,12 +16,9 @@ in-range s h = omega arith
 returns : tie.Need-returns
 returns c = rw (seconds-refused _ (c .if1 .taken))
 
-from-wrapped-seconds-requires : tie.Need-from-wrapped-seconds-requires
-from-wrapped-seconds-requires c κs = search needs
-
 returns-2 : tie.Need-returns-2
 returns-2 c =
     rw (seconds-accepted _ (c .before .if1 .left)) (ap accepted (c .from-wrapped-seconds .ensures ∙ ap timeOf (in-range _ (c .before .if1 .left))))
 
 pub from-seconds-since-2000-spec : {M : Type 1} → statement M
-from-seconds-since-2000-spec = tie.close (tie.spec returns from-wrapped-seconds-requires returns-2)
+from-seconds-since-2000-spec = tie.close (tie.spec returns (λ c κs. search needs) returns-2)

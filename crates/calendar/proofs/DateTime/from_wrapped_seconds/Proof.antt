@@ -9,18 +9,6 @@ use borrow.Author.Needs.{needs}
 use Rattle.calendar.proofs.DateTime.from_wrapped_seconds.Statement.{statement}
 use Rattle.calendar.proofs.DateTime.from_wrapped_seconds.Tie as tie
 
-civil-from-days-requires : tie.Need-civil-from-days-requires
-civil-from-days-requires c κs = search needs
-
-cast-t6 : tie.Need-cast-t6
-cast-t6 c = search needs
-
-cast-t9 : tie.Need-cast-t9
-cast-t9 c = search needs
-
-cast-t11 : tie.Need-cast-t11
-cast-t11 c = search needs
-
 -- the code's split of a day is the calendar's
 split : (s : ℕ) → (s % 86400 / 3600 ≡ s / 3600 % 24) × (s % 86400 % 3600 / 60 ≡ s / 60 % 60) × (s % 86400 % 60 ≡ s % 60)
 split s = omega arith
@@ -33,4 +21,4 @@ returns c =
 
 pub from-wrapped-seconds-spec : {M : Type 1} → statement M
 from-wrapped-seconds-spec =
-    tie.close (tie.spec civil-from-days-requires cast-t6 cast-t9 cast-t11 returns)
+    tie.close (tie.spec (λ c κs. search needs) (λ c. search needs) (λ c. search needs) (λ c. search needs) returns)

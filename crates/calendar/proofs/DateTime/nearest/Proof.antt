@@ -6,27 +6,6 @@ use borrow.Author.Needs.{needs}
 use Rattle.calendar.proofs.DateTime.nearest.Statement.{statement}
 use Rattle.calendar.proofs.DateTime.nearest.Tie as tie
 
-clamp-u16-requires : tie.Need-clamp-u16-requires
-clamp-u16-requires c κs = search needs
-
-clamp-u8-requires : tie.Need-clamp-u8-requires
-clamp-u8-requires c κs = search needs
-
-days-in-month-requires : tie.Need-days-in-month-requires
-days-in-month-requires c κs = search needs
-
-clamp-u8-requires-2 : tie.Need-clamp-u8-requires-2
-clamp-u8-requires-2 c κs = search needs
-
-clamp-u8-requires-3 : tie.Need-clamp-u8-requires-3
-clamp-u8-requires-3 c κs = search needs
-
-clamp-u8-requires-4 : tie.Need-clamp-u8-requires-4
-clamp-u8-requires-4 c κs = search needs
-
-clamp-u8-requires-5 : tie.Need-clamp-u8-requires-5
-clamp-u8-requires-5 c κs = search needs
-
 returns : tie.Need-returns
 unfolding nearestTime
 returns c =
@@ -48,11 +27,6 @@ pub nearest-spec : {M : Type 1} → statement M
 nearest-spec =
     tie.close
     (tie.spec
-    clamp-u16-requires
-    clamp-u8-requires
-    days-in-month-requires
-    clamp-u8-requires-2
-    clamp-u8-requires-3
-    clamp-u8-requires-4
-    clamp-u8-requires-5
+    (λ c κs. search needs) (λ c κs. search needs) (λ c κs. search needs) (λ c κs. search needs) (λ c κs. search needs)
+    (λ c κs. search needs) (λ c κs. search needs)
     returns)

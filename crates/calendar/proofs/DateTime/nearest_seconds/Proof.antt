@@ -7,9 +7,6 @@ use borrow.Author.Needs.{needs}
 use Rattle.calendar.proofs.DateTime.nearest_seconds.Statement.{statement}
 use Rattle.calendar.proofs.DateTime.nearest_seconds.Tie as tie
 
-nearest-requires : tie.Need-nearest-requires
-nearest-requires c κs = search needs
-
 seconds-of-valid-requires : tie.Need-seconds-of-valid-requires
 seconds-of-valid-requires c κs = rw (c .nearest .ensures) (nearest-in-range _)
 
@@ -17,4 +14,4 @@ returns : tie.Need-returns
 returns c = c .seconds-of-valid .ensures ∙ ap secondsOf (c .before .nearest .ensures)
 
 pub nearest-seconds-spec : {M : Type 1} → statement M
-nearest-seconds-spec = tie.close (tie.spec nearest-requires seconds-of-valid-requires returns)
+nearest-seconds-spec = tie.close (tie.spec (λ c κs. search needs) seconds-of-valid-requires returns)

@@ -7,17 +7,8 @@ use Rattle.calendar.proofs.Validated.{in-range, on-valid, on-invalid}
 use Rattle.calendar.proofs.DateTime.seconds_since_2000.Statement.{statement}
 use Rattle.calendar.proofs.DateTime.seconds_since_2000.Tie as tie
 
-validate-requires : tie.Need-validate-requires
-validate-requires c κs = search needs
-
-enum-told : tie.Need-enum-told
-enum-told c = search needs
-
 seconds-of-valid-requires : tie.Need-seconds-of-valid-requires
 seconds-of-valid-requires c κs = in-range _ _ (c .before .before .validate .ensures) (c .enum-told .given .1)
-
-enum-known-validity : tie.Need-enum-known-validity
-enum-known-validity c = search needs
 
 returns : tie.Need-returns
 returns c = ap accepted (c .seconds-of-valid .ensures) ∙ on-valid _ _ (c .before .before .before .validate .ensures) _ (c .before .enum-told .given .1)
@@ -29,9 +20,8 @@ pub seconds-since-2000-spec : {M : Type 1} → statement M
 seconds-since-2000-spec =
     tie.close
     (tie.spec
-    validate-requires
-    enum-told
+    (λ c κs. search needs) (λ c. search needs)
     seconds-of-valid-requires
-    enum-known-validity
+    (λ c. search needs)
     returns
     returns-2)

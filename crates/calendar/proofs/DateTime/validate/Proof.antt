@@ -16,9 +16,6 @@ returns c = bad-year _ (⊎-elim (λ w. below (omega (arith, ltb-true))) (λ w. 
 returns-2 : tie.Need-returns-2
 returns-2 c = bad-month _ (omega (arith, ltb-false)) (⊎-elim (λ w. below (omega (arith, ltb-true))) (λ w. above (omega (arith, ltb-true))) (c .if3 .came)) ∙ sym (equations .checked-is _)
 
-is-past-month-requires : tie.Need-is-past-month-requires
-is-past-month-requires c κs = search needs
-
 returns-3 : tie.Need-returns-3
 returns-3 c = bad-day _ (omega (arith, ltb-false)) (omega (arith, ltb-false)) (⊎-elim (λ w. below (omega arith)) (λ w. above (ltb-true _ _ (sym (w .1 .ensures) ∙ w .2 .taken))) (c .if5 .came)) ∙ sym (equations .checked-is _)
 
@@ -47,4 +44,4 @@ returns-7 c =
     sym (equations .checked-is _ ∙ valid-accepted _ (omega (arith, ltb-false)))
 
 pub validate-spec : {M : Type 1} → statement M
-validate-spec = tie.close (tie.spec returns returns-2 is-past-month-requires returns-3 returns-4 returns-5 returns-6 returns-7)
+validate-spec = tie.close (tie.spec returns returns-2 (λ c κs. search needs) returns-3 returns-4 returns-5 returns-6 returns-7)

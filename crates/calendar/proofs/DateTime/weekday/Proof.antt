@@ -9,20 +9,8 @@ use Rattle.calendar.proofs.Validated.{in-range, on-valid, on-invalid}
 use Rattle.calendar.proofs.DateTime.weekday.Statement.{statement}
 use Rattle.calendar.proofs.DateTime.weekday.Tie as tie
 
-validate-requires : tie.Need-validate-requires
-validate-requires c κs = search needs
-
-enum-told : tie.Need-enum-told
-enum-told c = search needs
-
 days-since-2000-requires : tie.Need-days-since-2000-requires
 days-since-2000-requires c κs = in-range _ _ (c .before .before .validate .ensures) (c .enum-told .given .1) .date
-
-weekday-of-day-requires : tie.Need-weekday-of-day-requires
-weekday-of-day-requires c κs = search needs
-
-enum-known-validity : tie.Need-enum-known-validity
-enum-known-validity c = search needs
 
 returns : tie.Need-returns
 returns c =
@@ -37,10 +25,8 @@ pub weekday-spec : {M : Type 1} → statement M
 weekday-spec =
     tie.close
     (tie.spec
-    validate-requires
-    enum-told
+    (λ c κs. search needs) (λ c. search needs)
     days-since-2000-requires
-    weekday-of-day-requires
-    enum-known-validity
+    (λ c κs. search needs) (λ c. search needs)
     returns
     returns-2)

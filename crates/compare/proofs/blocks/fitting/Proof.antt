@@ -16,8 +16,5 @@ counts n xs h = (h, sym (length-take-le n xs h))
 returns : tie.Need-returns
 returns c = counts _ _ (c .if1 .taken)
 
-returns-2 : tie.Need-returns-2
-returns-2 c = search needs
-
 pub fitting-spec : {M : Type 1} → statement M
-fitting-spec = tie.close (tie.spec returns returns-2)
+fitting-spec = tie.close (tie.spec returns (λ c. search needs))

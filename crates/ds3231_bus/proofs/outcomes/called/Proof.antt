@@ -7,26 +7,11 @@ use borrow.Author.Needs.{needs}
 use Rattle.ds3231_bus.proofs.outcomes.called.Statement.{statement}
 use Rattle.ds3231_bus.proofs.outcomes.called.Tie as tie
 
-is-sound-requires : tie.Need-is-sound-requires
-is-sound-requires c κs = search needs
-
-unwritten-requires : tie.Need-unwritten-requires
-unwritten-requires c κs = search needs
-
 returns : tie.Need-returns
 returns c = not-sound _ _ _ _ (sym (c .before .before .is-sound .ensures) ∙ not-true _ (c .before .if1 .taken)) (c .unwritten .ensures)
 
-unwritten-requires-2 : tie.Need-unwritten-requires-2
-unwritten-requires-2 c κs = search needs
-
 returns-2 : tie.Need-returns-2
 returns-2 c = store-length _ _ _ _ (sym (c .before .before .before .is-sound .ensures) ∙ not-false _ (c .before .before .if1 .left)) (c .before .if2 .taken) (c .unwritten2 .ensures)
-
-step-requires : tie.Need-step-requires
-step-requires c κs = search needs
-
-stored-requires : tie.Need-stored-requires
-stored-requires c κs = search needs
 
 returns-3 : tie.Need-returns-3
 returns-3 c = let b = c .before .before .before in keeps _ _ _ _ (sym (b .before .before .is-sound .ensures) ∙ not-false _ (b .before .if1 .left)) (b .if2 .left) _ (c .before .step .ensures) (c .stored .ensures)
@@ -35,11 +20,9 @@ pub called-spec : {M : Type 1} → statement M
 called-spec =
     tie.close
     (tie.spec
-    is-sound-requires
-    unwritten-requires
+    (λ c κs. search needs) (λ c κs. search needs)
     returns
-    unwritten-requires-2
+    (λ c κs. search needs)
     returns-2
-    step-requires
-    stored-requires
+    (λ c κs. search needs) (λ c κs. search needs)
     returns-3)

@@ -5,15 +5,6 @@ use borrow.Author.Needs.{needs}
 use Rattle.ds3231_bus.proofs.outcomes.stored.Statement.{statement}
 use Rattle.ds3231_bus.proofs.outcomes.stored.Tie as tie
 
-enum-told : tie.Need-enum-told
-enum-told c = search needs
-
-unwritten-requires : tie.Need-unwritten-requires
-unwritten-requires c κs = search needs
-
-enum-known-report : tie.Need-enum-known-report
-enum-known-report c = search needs
-
 returns : tie.Need-returns
 returns c = stores-none _ _ _ _ _ (c .before .enum-told .given .1) (c .unwritten .ensures)
 
@@ -21,4 +12,4 @@ returns-2 : tie.Need-returns-2
 returns-2 c = stores-one _ _ _ _ _ (c .before .before .report .given .1)
 
 pub stored-spec : {M : Type 1} → statement M
-stored-spec = tie.close (tie.spec enum-told unwritten-requires enum-known-report returns returns-2)
+stored-spec = tie.close (tie.spec (λ c. search needs) (λ c κs. search needs) (λ c. search needs) returns returns-2)

@@ -5,11 +5,8 @@ use borrow.Author.Needs.{needs}
 use Rattle.ds3231_bus.proofs.outcomes.unwritten.Statement.{statement}
 use Rattle.ds3231_bus.proofs.outcomes.unwritten.Tie as tie
 
-no-diagnostic-requires : tie.Need-no-diagnostic-requires
-no-diagnostic-requires c κs = search needs
-
 returns : tie.Need-returns
 returns c = record { chip = refl; answer = refl; write = refl }
 
 pub unwritten-spec : {M : Type 1} → statement M
-unwritten-spec = tie.close (tie.spec no-diagnostic-requires returns)
+unwritten-spec = tie.close (tie.spec (λ c κs. search needs) returns)

@@ -4,11 +4,8 @@ use borrow.Author.Needs.{needs}
 use Rattle.ds3231_bus.proofs.outcomes.written.Statement.{statement}
 use Rattle.ds3231_bus.proofs.outcomes.written.Tie as tie
 
-called-requires : tie.Need-called-requires
-called-requires c κs = search needs
-
 returns : tie.Need-returns
 returns c = c .called .ensures
 
 pub written-spec : {M : Type 1} → statement M
-written-spec = tie.close (tie.spec called-requires returns)
+written-spec = tie.close (tie.spec (λ c κs. search needs) returns)

@@ -7,23 +7,11 @@ use Rattle.ds3231_bus.proofs.TakingLaws.{not-sound, store-length, out-t
 use Rattle.ds3231_bus.proofs.takings.taken.Statement.{statement}
 use Rattle.ds3231_bus.proofs.takings.taken.Tie as tie
 
-is-sound-requires : tie.Need-is-sound-requires
-is-sound-requires c κs = search needs
-
-refused-requires : tie.Need-refused-requires
-refused-requires c κs = search needs
-
 returns : tie.Need-returns
 returns c = not-sound _ _ _ (sym (c .before .before .is-sound .ensures) ∙ not-true _ (c .before .if1 .taken)) _ (c .refused .ensures)
 
-refused-requires-2 : tie.Need-refused-requires-2
-refused-requires-2 c κs = search needs
-
 returns-2 : tie.Need-returns-2
 returns-2 c = store-length _ _ _ (sym (c .before .before .before .is-sound .ensures) ∙ not-false _ (c .before .before .if1 .left)) (c .before .if2 .taken) _ (c .refused2 .ensures)
-
-refused-requires-3 : tie.Need-refused-requires-3
-refused-requires-3 c κs = search needs
 
 returns-3 : tie.Need-returns-3
 returns-3 c = out-too-short _ _ _ (sym (c .before .before .before .before .before .before .is-sound .ensures) ∙ not-false _ (c .before .before .before .before .before .if1 .left)) (c .before .before .before .before .if2 .left) (c .before .if3 .taken) _ (c .refused3 .ensures)
@@ -35,11 +23,10 @@ pub taken-spec : {M : Type 1} → statement M
 taken-spec =
     tie.close
     (tie.spec
-    is-sound-requires
-    refused-requires
+    (λ c κs. search needs) (λ c κs. search needs)
     returns
-    refused-requires-2
+    (λ c κs. search needs)
     returns-2
-    refused-requires-3
+    (λ c κs. search needs)
     returns-3
     returns-4)

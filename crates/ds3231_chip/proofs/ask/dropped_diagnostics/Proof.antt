@@ -5,9 +5,6 @@ use borrow.Author.Needs.{needs}
 use Rattle.ds3231_chip.proofs.ask.dropped_diagnostics.Statement.{statement}
 use Rattle.ds3231_chip.proofs.ask.dropped_diagnostics.Tie as tie
 
-is-sound-requires : tie.Need-is-sound-requires
-is-sound-requires c κs = search needs
-
 returns : tie.Need-returns
 returns c = rw (checked-no _ _ (c .before .is-sound .ensures) (c .if1 .taken))
 
@@ -15,4 +12,4 @@ returns-2 : tie.Need-returns-2
 returns-2 c = rw (checked-yes _ _ (c .before .before .is-sound .ensures) (c .before .if1 .left))
 
 pub dropped-diagnostics-spec : {M : Type 1} → statement M
-dropped-diagnostics-spec = tie.close (tie.spec is-sound-requires returns returns-2)
+dropped-diagnostics-spec = tie.close (tie.spec (λ c κs. search needs) returns returns-2)

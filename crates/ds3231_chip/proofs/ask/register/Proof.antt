@@ -6,20 +6,11 @@ use borrow.Author.Needs.{needs}
 use Rattle.ds3231_chip.proofs.ask.register.Statement.{statement}
 use Rattle.ds3231_chip.proofs.ask.register.Tie as tie
 
-is-sound-requires : tie.Need-is-sound-requires
-is-sound-requires c κs = search needs
-
 returns : tie.Need-returns
 returns c = rw (checked-no _ _ (c .before .is-sound .ensures) (c .if1 .taken))
 
 returns-2 : tie.Need-returns-2
 returns-2 c = rw (checked-yes _ _ (c .before .before .is-sound .ensures) (c .before .if1 .left), lt-leb _ _ (c .if2 .taken))
-
-time-registers-requires : tie.Need-time-registers-requires
-time-registers-requires c κs = search needs
-
-register-byte-requires : tie.Need-register-byte-requires
-register-byte-requires c κs = search needs
 
 returns-3 : tie.Need-returns-3
 returns-3 c =
@@ -28,4 +19,4 @@ returns-3 c =
 
 pub register-spec : {M : Type 1} → statement M
 register-spec =
-    tie.close (tie.spec is-sound-requires returns returns-2 time-registers-requires register-byte-requires returns-3)
+    tie.close (tie.spec (λ c κs. search needs) returns returns-2 (λ c κs. search needs) (λ c κs. search needs) returns-3)

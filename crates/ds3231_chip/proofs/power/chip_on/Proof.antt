@@ -4,14 +4,8 @@ use borrow.Author.Needs.{needs}
 use Rattle.ds3231_chip.proofs.power.chip_on.Statement.{statement}
 use Rattle.ds3231_chip.proofs.power.chip_on.Tie as tie
 
-timing-on-requires : tie.Need-timing-on-requires
-timing-on-requires c κs = search needs
-
-registers-on-requires : tie.Need-registers-on-requires
-registers-on-requires c κs = search needs
-
 returns : tie.Need-returns
 returns c = rw (c .registers-on .ensures, c .before .timing-on .ensures)
 
 pub chip-on-spec : {M : Type 1} → statement M
-chip-on-spec = tie.close (tie.spec timing-on-requires registers-on-requires returns)
+chip-on-spec = tie.close (tie.spec (λ c κs. search needs) (λ c κs. search needs) returns)

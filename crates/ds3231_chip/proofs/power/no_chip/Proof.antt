@@ -4,11 +4,8 @@ use borrow.Author.Needs.{needs}
 use Rattle.ds3231_chip.proofs.power.no_chip.Statement.{statement}
 use Rattle.ds3231_chip.proofs.power.no_chip.Tie as tie
 
-no-timing-requires : tie.Need-no-timing-requires
-no-timing-requires c κs = search needs
-
 returns : tie.Need-returns
 returns c = rw (c .no-timing .ensures)
 
 pub no-chip-spec : {M : Type 1} → statement M
-no-chip-spec = tie.close (tie.spec no-timing-requires returns)
+no-chip-spec = tie.close (tie.spec (λ c κs. search needs) returns)

@@ -14,28 +14,10 @@ use borrow.Author.Needs.{needs}
 use Rattle.ds3231_chip.proofs.power.power_on.Statement.{statement}
 use Rattle.ds3231_chip.proofs.power.power_on.Tie as tie
 
-validate-requires : tie.Need-validate-requires
-validate-requires c κs = search needs
-
-enum-told : tie.Need-enum-told
-enum-told c = search needs
-
-in-quarters-requires : tie.Need-in-quarters-requires
-in-quarters-requires c κs = search needs
-
 chip-on-requires : tie.Need-chip-on-requires
 chip-on-requires c κs =
     let b = c .before .before .before .before in
     accepted-in-range _ (sym (b .validate .ensures) ∙ ap validityAnswer (c .before .before .enum-told .given .1))
-
-no-chip-requires : tie.Need-no-chip-requires
-no-chip-requires c κs = search needs
-
-enum-known-validity : tie.Need-enum-known-validity
-enum-known-validity c = search needs
-
-no-chip-requires-2 : tie.Need-no-chip-requires-2
-no-chip-requires-2 c κs = search needs
 
 returns : tie.Need-returns
 returns c =
@@ -62,13 +44,9 @@ pub power-on-spec : {M : Type 1} → statement M
 power-on-spec =
     tie.close
     (tie.spec
-    validate-requires
-    enum-told
-    in-quarters-requires
+    (λ c κs. search needs) (λ c. search needs) (λ c κs. search needs)
     chip-on-requires
-    no-chip-requires
-    enum-known-validity
-    no-chip-requires-2
+    (λ c κs. search needs) (λ c. search needs) (λ c κs. search needs)
     returns
     returns-2
     returns-3)

@@ -8,12 +8,6 @@ use borrow.Author.Needs.{needs}
 use Rattle.ds3231_chip.proofs.power.start_weekday.Statement.{statement}
 use Rattle.ds3231_chip.proofs.power.start_weekday.Tie as tie
 
-nearest-seconds-requires : tie.Need-nearest-seconds-requires
-nearest-seconds-requires c κs = search needs
-
-weekday-of-day-requires : tie.Need-weekday-of-day-requires
-weekday-of-day-requires c κs = search needs
-
 returns : tie.Need-returns
 returns c =
     let t = c .before .before .args .start in
@@ -21,4 +15,4 @@ returns c =
     omega (arith, c .weekday-of-day .ensures, c .before .nearest-seconds .ensures, ap secondsOf (nearest-same t v), seconds-day t v, weekday-formula t)
 
 pub start-weekday-spec : {M : Type 1} → statement M
-start-weekday-spec = tie.close (tie.spec nearest-seconds-requires weekday-of-day-requires returns)
+start-weekday-spec = tie.close (tie.spec (λ c κs. search needs) (λ c κs. search needs) returns)

@@ -5,12 +5,9 @@ use borrow.Author.Needs.{needs}
 use Rattle.ds3231_chip.proofs.sound.sound_pending.Statement.{statement}
 use Rattle.ds3231_chip.proofs.sound.sound_pending.Tie as tie
 
-sound-time-requires : tie.Need-sound-time-requires
-sound-time-requires c κs = search needs
-
 returns : tie.Need-returns
 unfolding soundPending
 returns c = rw (c .before .before .sound-time .ensures)
 
 pub sound-pending-spec : {M : Type 1} → statement M
-sound-pending-spec = tie.close (tie.spec sound-time-requires returns)
+sound-pending-spec = tie.close (tie.spec (λ c κs. search needs) returns)

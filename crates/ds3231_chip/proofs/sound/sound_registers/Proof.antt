@@ -8,9 +8,6 @@ use borrow.Author.Needs.{needs}
 use Rattle.ds3231_chip.proofs.sound.sound_registers.Statement.{statement}
 use Rattle.ds3231_chip.proofs.sound.sound_registers.Tie as tie
 
-in-quarters-requires : tie.Need-in-quarters-requires
-in-quarters-requires c κs = search needs
-
 returns : tie.Need-returns
 unfolding soundRegisters
 returns c =
@@ -18,4 +15,4 @@ returns c =
     rw (c .before .before .before .in-quarters .ensures, toZ-ofZ s)
 
 pub sound-registers-spec : {M : Type 1} → statement M
-sound-registers-spec = tie.close (tie.spec in-quarters-requires returns)
+sound-registers-spec = tie.close (tie.spec (λ c κs. search needs) returns)

@@ -5,12 +5,9 @@ use borrow.Author.Needs.{needs}
 use Rattle.ds3231_chip.proofs.sound.sound_timing.Statement.{statement}
 use Rattle.ds3231_chip.proofs.sound.sound_timing.Tie as tie
 
-sound-pending-requires : tie.Need-sound-pending-requires
-sound-pending-requires c κs = search needs
-
 returns : tie.Need-returns
 unfolding soundTiming
 returns c = rw (c .sound-pending .ensures)
 
 pub sound-timing-spec : {M : Type 1} → statement M
-sound-timing-spec = tie.close (tie.spec sound-pending-requires returns)
+sound-timing-spec = tie.close (tie.spec (λ c κs. search needs) returns)

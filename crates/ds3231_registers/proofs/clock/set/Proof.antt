@@ -5,14 +5,8 @@ use borrow.Author.Needs.{needs}
 use Rattle.ds3231_registers.proofs.clock.set.Statement.{statement}
 use Rattle.ds3231_registers.proofs.clock.set.Tie as tie
 
-nearest-seconds-requires : tie.Need-nearest-seconds-requires
-nearest-seconds-requires c κs = search needs
-
-offset-for-requires : tie.Need-offset-for-requires
-offset-for-requires c κs = search needs
-
 returns : tie.Need-returns
 returns c = rw (c .offset-for .ensures, c .before .nearest-seconds .ensures, nearest-day)
 
 pub set-spec : {M : Type 1} → statement M
-set-spec = tie.close (tie.spec nearest-seconds-requires offset-for-requires returns)
+set-spec = tie.close (tie.spec (λ c κs. search needs) (λ c κs. search needs) returns)

@@ -4,12 +4,6 @@ use borrow.Author.Needs.{needs}
 use Rattle.ds3231_registers.proofs.registers.conversion_end.Statement.{statement}
 use Rattle.ds3231_registers.proofs.registers.conversion_end.Tie as tie
 
-starts-conversion-requires : tie.Need-starts-conversion-requires
-starts-conversion-requires c κs = search needs
-
-end-of-conversion-requires : tie.Need-end-of-conversion-requires
-end-of-conversion-requires c κs = search needs
-
 returns : tie.Need-returns
 returns c = rw (c .end-of-conversion .ensures, ← (c .before .before .starts-conversion .ensures), c .before .if1 .taken)
 
@@ -18,4 +12,4 @@ returns-2 c = rw (← (c .before .starts-conversion .ensures), c .if1 .left)
 
 pub conversion-end-spec : {M : Type 1} → statement M
 conversion-end-spec =
-    tie.close (tie.spec starts-conversion-requires end-of-conversion-requires returns returns-2)
+    tie.close (tie.spec (λ c κs. search needs) (λ c κs. search needs) returns returns-2)

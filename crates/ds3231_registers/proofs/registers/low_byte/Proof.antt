@@ -11,20 +11,11 @@ sub-result c = turned-fits _ (c .before .fits .value) (c .if1 .taken)
 cast-result : tie.Need-cast-result
 cast-result c = turned-casts _ (c .before .fits .value) (c .if1 .taken)
 
-cast-result-2 : tie.Need-cast-result-2
-cast-result-2 c = search needs
-
-sub-result-2 : tie.Need-sub-result-2
-sub-result-2 c = search needs
-
 returns : tie.Need-returns
 returns c = low-of-negative _ (c .before .fits .value) (c .if1 .taken)
 
 cast-result-3 : tie.Need-cast-result-3
 cast-result-3 c = natural-casts _ (c .before .fits .value) (c .if1 .left)
-
-cast-result-4 : tie.Need-cast-result-4
-cast-result-4 c = search needs
 
 returns-2 : tie.Need-returns-2
 returns-2 c = low-of-natural _ (c .before .fits .value) (c .if1 .left)
@@ -35,9 +26,8 @@ low-byte-spec =
     (tie.spec
     sub-result
     cast-result
-    cast-result-2
-    sub-result-2
+    (λ c. search needs) (λ c. search needs)
     returns
     cast-result-3
-    cast-result-4
+    (λ c. search needs)
     returns-2)

@@ -10,27 +10,6 @@ use borrow.Author.Needs.{needs}
 use Rattle.ds3231_registers.proofs.registers.other_register.Statement.{statement}
 use Rattle.ds3231_registers.proofs.registers.other_register.Tie as tie
 
-converting-requires : tie.Need-converting-requires
-converting-requires c κs = search needs
-
-bits-if-requires : tie.Need-bits-if-requires
-bits-if-requires c κs = search needs
-
-bits-if-requires-2 : tie.Need-bits-if-requires-2
-bits-if-requires-2 c κs = search needs
-
-temperature-high-requires : tie.Need-temperature-high-requires
-temperature-high-requires c κs = search needs
-
-alarm-slot-requires : tie.Need-alarm-slot-requires
-alarm-slot-requires c κs = search needs
-
-array-read-result : tie.Need-array-read-result
-array-read-result c = search needs
-
-temperature-low-requires : tie.Need-temperature-low-requires
-temperature-low-requires c κs = search needs
-
 returns : tie.Need-returns
 unfolding otherByte
 returns c = rw (c .before .bits-if .ensures, c .before .before .before .before .converting .ensures, c .before .before .match .keys1)
@@ -66,13 +45,8 @@ pub other-register-spec : {M : Type 1} → statement M
 other-register-spec =
     tie.close
     (tie.spec
-    converting-requires
-    bits-if-requires
-    bits-if-requires-2
-    temperature-high-requires
-    alarm-slot-requires
-    array-read-result
-    temperature-low-requires
+    (λ c κs. search needs) (λ c κs. search needs) (λ c κs. search needs) (λ c κs. search needs) (λ c κs. search needs)
+    (λ c. search needs) (λ c κs. search needs)
     returns
     returns-2
     returns-3

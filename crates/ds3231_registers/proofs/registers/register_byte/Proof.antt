@@ -5,18 +5,12 @@ use borrow.Author.Needs.{needs}
 use Rattle.ds3231_registers.proofs.registers.register_byte.Statement.{statement}
 use Rattle.ds3231_registers.proofs.registers.register_byte.Tie as tie
 
-array-read-result : tie.Need-array-read-result
-array-read-result c = search needs
-
 returns : tie.Need-returns
 returns c = rw (le-leb _ _ (c .if1 .taken))
-
-other-register-requires : tie.Need-other-register-requires
-other-register-requires c κs = search needs
 
 returns-2 : tie.Need-returns-2
 returns-2 c = rw (lt-leb _ _ (c .before .if1 .left), c .other-register .ensures)
 
 pub register-byte-spec : {M : Type 1} → statement M
 register-byte-spec =
-    tie.close (tie.spec array-read-result returns other-register-requires returns-2)
+    tie.close (tie.spec (λ c. search needs) returns (λ c κs. search needs) returns-2)

@@ -7,11 +7,8 @@ use borrow.Author.Needs.{needs}
 use Rattle.ds3231_registers.proofs.registers.temperature_high.Statement.{statement}
 use Rattle.ds3231_registers.proofs.registers.temperature_high.Tie as tie
 
-low-byte-requires : tie.Need-low-byte-requires
-low-byte-requires c κs = search needs
-
 returns : tie.Need-returns
 returns c = c .low-byte .ensures ∙ ap lowByte (shifted _ (c .before .fits .quarters))
 
 pub temperature-high-spec : {M : Type 1} → statement M
-temperature-high-spec = tie.close (tie.spec low-byte-requires returns)
+temperature-high-spec = tie.close (tie.spec (λ c κs. search needs) returns)

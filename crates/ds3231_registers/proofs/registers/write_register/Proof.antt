@@ -5,15 +5,6 @@ use borrow.Author.Needs.{needs}
 use Rattle.ds3231_registers.proofs.registers.write_register.Statement.{statement}
 use Rattle.ds3231_registers.proofs.registers.write_register.Tie as tie
 
-write-control-requires : tie.Need-write-control-requires
-write-control-requires c κs = search needs
-
-cast-slot : tie.Need-cast-slot
-cast-slot c = search needs
-
-element-write-registers : tie.Need-element-write-registers
-element-write-registers c = search needs
-
 returns : tie.Need-returns
 returns c = rw (c .write-control .ensures, c .before .match .keys1)
 
@@ -36,9 +27,7 @@ pub write-register-spec : {M : Type 1} → statement M
 write-register-spec =
     tie.close
     (tie.spec
-    write-control-requires
-    cast-slot
-    element-write-registers
+    (λ c κs. search needs) (λ c. search needs) (λ c. search needs)
     returns
     returns-2
     returns-3

@@ -6,27 +6,6 @@ use Rattle.ds3231_registers.proofs.TimingLaws.{field-defined}
 use Rattle.ds3231_registers.proofs.timing.accept.Statement.{statement}
 use Rattle.ds3231_registers.proofs.timing.accept.Tie as tie
 
-enum-known-decoded : tie.Need-enum-known-decoded
-enum-known-decoded c = search needs
-
-changed-mode-requires : tie.Need-changed-mode-requires
-changed-mode-requires c κs = search needs
-
-pending-time-requires : tie.Need-pending-time-requires
-pending-time-requires c κs = search needs
-
-noted-requires : tie.Need-noted-requires
-noted-requires c κs = search needs
-
-begins-at-requires : tie.Need-begins-at-requires
-begins-at-requires c κs = search needs
-
-enum-told : tie.Need-enum-told
-enum-told c = search needs
-
-next-requires : tie.Need-next-requires
-next-requires c κs = search needs
-
 returns : tie.Need-returns
 returns c =
     ⊎-elim
@@ -37,11 +16,6 @@ pub accept-spec : {M : Type 1} → statement M
 accept-spec =
     tie.close
     (tie.spec
-    enum-known-decoded
-    changed-mode-requires
-    pending-time-requires
-    noted-requires
-    begins-at-requires
-    enum-told
-    next-requires
+    (λ c. search needs) (λ c κs. search needs) (λ c κs. search needs) (λ c κs. search needs) (λ c κs. search needs)
+    (λ c. search needs) (λ c κs. search needs)
     returns)

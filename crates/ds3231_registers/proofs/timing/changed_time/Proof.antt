@@ -4,39 +4,6 @@ use borrow.Author.Needs.{needs}
 use Rattle.ds3231_registers.proofs.timing.changed_time.Statement.{statement}
 use Rattle.ds3231_registers.proofs.timing.changed_time.Tie as tie
 
-enum-known-field : tie.Need-enum-known-field
-enum-known-field c = search needs
-
-enum-known-field-2 : tie.Need-enum-known-field-2
-enum-known-field-2 c = search needs
-
-enum-known-field-3 : tie.Need-enum-known-field-3
-enum-known-field-3 c = search needs
-
-enum-told : tie.Need-enum-told
-enum-told c = search needs
-
-enum-known-field-4 : tie.Need-enum-known-field-4
-enum-known-field-4 c = search needs
-
-enum-known-field-5 : tie.Need-enum-known-field-5
-enum-known-field-5 c = search needs
-
-year-of-requires : tie.Need-year-of-requires
-year-of-requires c κs = search needs
-
-enum-known-field-6 : tie.Need-enum-known-field-6
-enum-known-field-6 c = search needs
-
-add-century : tie.Need-add-century
-add-century c = search needs
-
-cast-year-of : tie.Need-cast-year-of
-cast-year-of c = search needs
-
-year-of-requires-2 : tie.Need-year-of-requires-2
-year-of-requires-2 c κs = search needs
-
 returns : tie.Need-returns
 returns c = rw (c .before .field .given .1)
 
@@ -62,17 +29,8 @@ pub changed-time-spec : {M : Type 1} → statement M
 changed-time-spec =
     tie.close
     (tie.spec
-    enum-known-field
-    enum-known-field-2
-    enum-known-field-3
-    enum-told
-    enum-known-field-4
-    enum-known-field-5
-    year-of-requires
-    enum-known-field-6
-    add-century
-    cast-year-of
-    year-of-requires-2
+    (λ c. search needs) (λ c. search needs) (λ c. search needs) (λ c. search needs) (λ c. search needs) (λ c. search needs)
+    (λ c κs. search needs) (λ c. search needs) (λ c. search needs) (λ c. search needs) (λ c κs. search needs)
     returns
     returns-2
     returns-3

@@ -4,17 +4,8 @@ use borrow.Author.Needs.{needs}
 use Rattle.ds3231_registers.proofs.timing.shown.Statement.{statement}
 use Rattle.ds3231_registers.proofs.timing.shown.Tie as tie
 
-now-requires : tie.Need-now-requires
-now-requires c κs = search needs
-
-weekday-requires : tie.Need-weekday-requires
-weekday-requires c κs = search needs
-
-time-bytes-requires : tie.Need-time-bytes-requires
-time-bytes-requires c κs = search needs
-
 returns : tie.Need-returns
 returns c = rw (c .time-bytes .ensures, c .before .weekday .ensures, c .before .before .now .ensures)
 
 pub shown-spec : {M : Type 1} → statement M
-shown-spec = tie.close (tie.spec now-requires weekday-requires time-bytes-requires returns)
+shown-spec = tie.close (tie.spec (λ c κs. search needs) (λ c κs. search needs) (λ c κs. search needs) returns)

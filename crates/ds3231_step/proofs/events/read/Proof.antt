@@ -13,33 +13,6 @@ use borrow.Author.Needs.{needs}
 use Rattle.ds3231_step.proofs.events.read.Statement.{statement}
 use Rattle.ds3231_step.proofs.events.read.Tie as tie
 
-enum-told : tie.Need-enum-told
-enum-told c = search needs
-
-register-byte-requires : tie.Need-register-byte-requires
-register-byte-requires c κs = search needs
-
-next-requires : tie.Need-next-requires
-next-requires c κs = search needs
-
-shown-requires : tie.Need-shown-requires
-shown-requires c κs = search needs
-
-enum-told-2 : tie.Need-enum-told-2
-enum-told-2 c = search needs
-
-enum-told-3 : tie.Need-enum-told-3
-enum-told-3 c = search needs
-
-enum-told-4 : tie.Need-enum-told-4
-enum-told-4 c = search needs
-
-enum-told-5 : tie.Need-enum-told-5
-enum-told-5 c = search needs
-
-with-timing-requires : tie.Need-with-timing-requires
-with-timing-requires c κs = search needs
-
 returns : tie.Need-returns
 returns c =
     let a = c .before .before .before .before .before .before .before .args in
@@ -59,13 +32,6 @@ pub read-spec : {M : Type 1} → statement M
 read-spec =
     tie.close
     (tie.spec
-    enum-told
-    register-byte-requires
-    next-requires
-    shown-requires
-    enum-told-2
-    enum-told-3
-    enum-told-4
-    enum-told-5
-    with-timing-requires
+    (λ c. search needs) (λ c κs. search needs) (λ c κs. search needs) (λ c κs. search needs) (λ c. search needs)
+    (λ c. search needs) (λ c. search needs) (λ c. search needs) (λ c κs. search needs)
     returns)

@@ -7,30 +7,6 @@ use borrow.Author.Needs.{needs}
 use Rattle.ds3231_step.proofs.events.step.Statement.{statement}
 use Rattle.ds3231_step.proofs.events.step.Tie as tie
 
-enum-known-event : tie.Need-enum-known-event
-enum-known-event c = search needs
-
-start-requires : tie.Need-start-requires
-start-requires c κs = search needs
-
-enum-known-event-2 : tie.Need-enum-known-event-2
-enum-known-event-2 c = search needs
-
-write-requires : tie.Need-write-requires
-write-requires c κs = search needs
-
-enum-known-event-3 : tie.Need-enum-known-event-3
-enum-known-event-3 c = search needs
-
-read-requires : tie.Need-read-requires
-read-requires c κs = search needs
-
-enum-known-event-4 : tie.Need-enum-known-event-4
-enum-known-event-4 c = search needs
-
-stop-requires : tie.Need-stop-requires
-stop-requires c κs = search needs
-
 returns : tie.Need-returns
 returns c = let a = c .before .before .before .before .args in stepped-at (λ (e : Event). step e (a .chip)) _ _ (c .before .before .event .given .1) (c .start .ensures)
 
@@ -47,14 +23,8 @@ pub step-spec : {M : Type 1} → statement M
 step-spec =
     tie.close
     (tie.spec
-    enum-known-event
-    start-requires
-    enum-known-event-2
-    write-requires
-    enum-known-event-3
-    read-requires
-    enum-known-event-4
-    stop-requires
+    (λ c. search needs) (λ c κs. search needs) (λ c. search needs) (λ c κs. search needs) (λ c. search needs)
+    (λ c κs. search needs) (λ c. search needs) (λ c κs. search needs)
     returns
     returns-2
     returns-3

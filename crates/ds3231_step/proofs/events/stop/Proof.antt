@@ -5,18 +5,9 @@ use borrow.Author.Needs.{needs}
 use Rattle.ds3231_step.proofs.events.stop.Statement.{statement}
 use Rattle.ds3231_step.proofs.events.stop.Tie as tie
 
-commit-report-requires : tie.Need-commit-report-requires
-commit-report-requires c κs = search needs
-
-commit-requires : tie.Need-commit-requires
-commit-requires c κs = search needs
-
-with-timing-requires : tie.Need-with-timing-requires
-with-timing-requires c κs = search needs
-
 returns : tie.Need-returns
 returns c = record { chip = rw (c .with-timing .ensures, c .before .commit-report .ensures, c .before .before .commit .ensures); reply = refl; reports = c .before .commit-report .ensures }
 
 pub stop-spec : {M : Type 1} → statement M
 stop-spec =
-    tie.close (tie.spec commit-requires commit-report-requires with-timing-requires returns)
+    tie.close (tie.spec (λ c κs. search needs) (λ c κs. search needs) (λ c κs. search needs) returns)

@@ -7,36 +7,6 @@ use borrow.Author.Needs.{needs}
 use Rattle.ds3231_step.proofs.events.write.Statement.{statement}
 use Rattle.ds3231_step.proofs.events.write.Tie as tie
 
-enum-told : tie.Need-enum-told
-enum-told c = search needs
-
-write-pointer-requires : tie.Need-write-pointer-requires
-write-pointer-requires c κs = search needs
-
-enum-told-2 : tie.Need-enum-told-2
-enum-told-2 c = search needs
-
-write-register-requires : tie.Need-write-register-requires
-write-register-requires c κs = search needs
-
-enum-told-3 : tie.Need-enum-told-3
-enum-told-3 c = search needs
-
-only-reply-requires : tie.Need-only-reply-requires
-only-reply-requires c κs = search needs
-
-enum-told-4 : tie.Need-enum-told-4
-enum-told-4 c = search needs
-
-only-reply-requires-2 : tie.Need-only-reply-requires-2
-only-reply-requires-2 c κs = search needs
-
-enum-told-5 : tie.Need-enum-told-5
-enum-told-5 c = search needs
-
-only-reply-requires-3 : tie.Need-only-reply-requires-3
-only-reply-requires-3 c κs = search needs
-
 returns : tie.Need-returns
 returns c = let a = c .before .before .before .before .args in stepped-at (λ (p : Phase). written p (a .byte) (a .at) (a .chip)) _ _ (c .before .enum-told .given .1) (c .write-pointer .ensures)
 
@@ -56,16 +26,8 @@ pub write-spec : {M : Type 1} → statement M
 write-spec =
     tie.close
     (tie.spec
-    enum-told
-    write-pointer-requires
-    enum-told-2
-    write-register-requires
-    enum-told-3
-    only-reply-requires
-    enum-told-4
-    only-reply-requires-2
-    enum-told-5
-    only-reply-requires-3
+    (λ c. search needs) (λ c κs. search needs) (λ c. search needs) (λ c κs. search needs) (λ c. search needs)
+    (λ c κs. search needs) (λ c. search needs) (λ c κs. search needs) (λ c. search needs) (λ c κs. search needs)
     returns
     returns-2
     returns-3

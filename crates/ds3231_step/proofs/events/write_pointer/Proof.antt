@@ -7,12 +7,6 @@ use borrow.Author.Needs.{needs}
 use Rattle.ds3231_step.proofs.events.write_pointer.Statement.{statement}
 use Rattle.ds3231_step.proofs.events.write_pointer.Tie as tie
 
-pointer-report-requires : tie.Need-pointer-report-requires
-pointer-report-requires c κs = search needs
-
-with-timing-requires : tie.Need-with-timing-requires
-with-timing-requires c κs = search needs
-
 returns : tie.Need-returns
 returns c =
     let p = c .before .pointer-report .ensures in
@@ -21,4 +15,4 @@ returns c =
     (λ w. record { chip = rw (c .with-timing .ensures, p, w .1, w .2, lt-leb _ _ (w .0 .left)); reply = refl; reports = p }) (c .before .before .if1 .came)
 
 pub write-pointer-spec : {M : Type 1} → statement M
-write-pointer-spec = tie.close (tie.spec pointer-report-requires with-timing-requires returns)
+write-pointer-spec = tie.close (tie.spec (λ c κs. search needs) (λ c κs. search needs) returns)

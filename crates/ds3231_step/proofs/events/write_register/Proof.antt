@@ -9,23 +9,8 @@ use borrow.Author.Needs.{needs}
 use Rattle.ds3231_step.proofs.events.write_register.Statement.{statement}
 use Rattle.ds3231_step.proofs.events.write_register.Tie as tie
 
-decode-requires : tie.Need-decode-requires
-decode-requires c κs = search needs
-
-is-defined-requires : tie.Need-is-defined-requires
-is-defined-requires c κs = search needs
-
 register-report-requires : tie.Need-register-report-requires
 register-report-requires c κs = c .is-defined .ensures ∙ ap isDefined (c .before .before .decode .ensures)
-
-write-register-requires : tie.Need-write-register-requires
-write-register-requires c κs = search needs
-
-accept-requires : tie.Need-accept-requires
-accept-requires c κs = search needs
-
-counted-requires : tie.Need-counted-requires
-counted-requires c κs = search needs
 
 returns : tie.Need-returns
 returns c =
@@ -40,10 +25,7 @@ pub write-register-spec : {M : Type 1} → statement M
 write-register-spec =
     tie.close
     (tie.spec
-    decode-requires
-    is-defined-requires
+    (λ c κs. search needs) (λ c κs. search needs)
     register-report-requires
-    write-register-requires
-    accept-requires
-    counted-requires
+    (λ c κs. search needs) (λ c κs. search needs) (λ c κs. search needs)
     returns)

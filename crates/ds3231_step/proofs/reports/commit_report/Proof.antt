@@ -4,15 +4,6 @@ use borrow.Author.Needs.{needs}
 use Rattle.ds3231_step.proofs.reports.commit_report.Statement.{statement}
 use Rattle.ds3231_step.proofs.reports.commit_report.Tie as tie
 
-days-in-month-requires : tie.Need-days-in-month-requires
-days-in-month-requires c κs = search needs
-
-to-bcd-requires : tie.Need-to-bcd-requires
-to-bcd-requires c κs = search needs
-
-report-requires : tie.Need-report-requires
-report-requires c κs = search needs
-
 returns : tie.Need-returns
 returns c = rw (c .report .ensures, c .before .to-bcd .ensures, ← (c .before .before .before .before .before .days-in-month .ensures), c .before .before .if1 .taken)
 
@@ -21,4 +12,4 @@ returns-2 c = rw (← (c .before .before .before .days-in-month .ensures), c .if
 
 pub commit-report-spec : {M : Type 1} → statement M
 commit-report-spec =
-    tie.close (tie.spec days-in-month-requires to-bcd-requires report-requires returns returns-2)
+    tie.close (tie.spec (λ c κs. search needs) (λ c κs. search needs) (λ c κs. search needs) returns returns-2)

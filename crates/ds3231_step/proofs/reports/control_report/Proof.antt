@@ -4,12 +4,6 @@ use borrow.Author.Needs.{needs}
 use Rattle.ds3231_step.proofs.reports.control_report.Statement.{statement}
 use Rattle.ds3231_step.proofs.reports.control_report.Tie as tie
 
-enables-output-requires : tie.Need-enables-output-requires
-enables-output-requires c κs = search needs
-
-report-requires : tie.Need-report-requires
-report-requires c κs = search needs
-
 returns : tie.Need-returns
 returns c = rw (c .report .ensures, ← (c .before .before .before .enables-output .ensures), c .before .if1 .taken)
 
@@ -18,4 +12,4 @@ returns-2 c = rw (← (c .before .before .enables-output .ensures), c .if1 .left
 
 pub control-report-spec : {M : Type 1} → statement M
 control-report-spec =
-    tie.close (tie.spec enables-output-requires report-requires returns returns-2)
+    tie.close (tie.spec (λ c κs. search needs) (λ c κs. search needs) returns returns-2)

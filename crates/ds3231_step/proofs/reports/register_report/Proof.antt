@@ -5,20 +5,11 @@ use borrow.Author.Needs.{needs}
 use Rattle.ds3231_step.proofs.reports.register_report.Statement.{statement}
 use Rattle.ds3231_step.proofs.reports.register_report.Tie as tie
 
-time-report-requires : tie.Need-time-report-requires
-time-report-requires c κs = search needs
-
 returns : tie.Need-returns
 returns c = rw (c .time-report .ensures, le-leb _ _ (c .before .if1 .taken), c .before .before .pre)
 
-control-report-requires : tie.Need-control-report-requires
-control-report-requires c κs = search needs
-
 returns-2 : tie.Need-returns-2
 returns-2 c = rw (c .control-report .ensures, c .before .if2 .taken)
-
-report-requires : tie.Need-report-requires
-report-requires c κs = search needs
 
 returns-3 : tie.Need-returns-3
 returns-3 c = rw (c .report .ensures, lt-leb _ _ (c .before .before .before .if1 .left), ne-eqb _ _ (c .before .before .if2 .left), le-leb _ _ (c .before .if3 .taken))
@@ -30,10 +21,10 @@ pub register-report-spec : {M : Type 1} → statement M
 register-report-spec =
     tie.close
     (tie.spec
-    time-report-requires
+    (λ c κs. search needs)
     returns
-    control-report-requires
+    (λ c κs. search needs)
     returns-2
-    report-requires
+    (λ c κs. search needs)
     returns-3
     returns-4)

@@ -5,18 +5,6 @@ use borrow.Author.Needs.{needs}
 use Rattle.listing.proofs.blocks.both_columns.Statement.{statement}
 use Rattle.listing.proofs.blocks.both_columns.Tie as tie
 
-hex-requires : tie.Need-hex-requires
-hex-requires c κs = search needs
-
-byte-requires : tie.Need-byte-requires
-byte-requires c κs = search needs
-
-hex-requires-2 : tie.Need-hex-requires-2
-hex-requires-2 c κs = search needs
-
-same-length : tie.Need-same-length
-same-length c = search needs
-
 returns : tie.Need-returns
 returns c =
     let at-hex2 = c .before .before in
@@ -28,4 +16,4 @@ returns c =
 
 pub both-columns-spec : {M : Type 1} → statement M
 both-columns-spec =
-    tie.close (tie.spec hex-requires byte-requires hex-requires-2 same-length returns)
+    tie.close (tie.spec (λ c κs. search needs) (λ c κs. search needs) (λ c κs. search needs) (λ c. search needs) returns)

@@ -6,27 +6,9 @@ use borrow.Author.Needs.{needs}
 use Rattle.listing.proofs.blocks.event_word.Statement.{statement}
 use Rattle.listing.proofs.blocks.event_word.Tie as tie
 
-slice-aggregate-text : tie.Need-slice-aggregate-text
-slice-aggregate-text c = search needs
-
-text-requires : tie.Need-text-requires
-text-requires c κs = search needs
-
-same-length : tie.Need-same-length
-same-length c = search needs
-
 returns : tie.Need-returns
 unfolding eventWord
 returns c = rw (eq-eqb _ _ (c .before .before .before .before .before .if1 .taken)) (c .before .before .text .ensures)
-
-slice-aggregate-text-2 : tie.Need-slice-aggregate-text-2
-slice-aggregate-text-2 c = search needs
-
-text-requires-2 : tie.Need-text-requires-2
-text-requires-2 c κs = search needs
-
-same-length-2 : tie.Need-same-length-2
-same-length-2 c = search needs
 
 returns-2 : tie.Need-returns-2
 unfolding eventWord
@@ -36,15 +18,6 @@ returns-2 c =
     let at-if1 = at-if2 .before in
     rw (ne-eqb _ _ (at-if1 .if1 .left), eq-eqb _ _ (at-if2 .if2 .taken)) (at-text2 .text2 .ensures)
 
-slice-aggregate-text-3 : tie.Need-slice-aggregate-text-3
-slice-aggregate-text-3 c = search needs
-
-text-requires-3 : tie.Need-text-requires-3
-text-requires-3 c κs = search needs
-
-same-length-3 : tie.Need-same-length-3
-same-length-3 c = search needs
-
 returns-3 : tie.Need-returns-3
 unfolding eventWord
 returns-3 c =
@@ -53,15 +26,6 @@ returns-3 c =
     let at-if2 = at-if3 .before in
     let at-if1 = at-if2 .before in
     rw (ne-eqb _ _ (at-if1 .if1 .left), ne-eqb _ _ (at-if2 .if2 .left), eq-eqb _ _ (at-if3 .if3 .taken)) (at-text3 .text3 .ensures)
-
-slice-aggregate-text-4 : tie.Need-slice-aggregate-text-4
-slice-aggregate-text-4 c = search needs
-
-text-requires-4 : tie.Need-text-requires-4
-text-requires-4 c κs = search needs
-
-same-length-4 : tie.Need-same-length-4
-same-length-4 c = search needs
 
 returns-4 : tie.Need-returns-4
 unfolding eventWord
@@ -76,19 +40,11 @@ pub event-word-spec : {M : Type 1} → statement M
 event-word-spec =
     tie.close
     (tie.spec
-    slice-aggregate-text
-    text-requires
-    same-length
+    (λ c. search needs) (λ c κs. search needs) (λ c. search needs)
     returns
-    slice-aggregate-text-2
-    text-requires-2
-    same-length-2
+    (λ c. search needs) (λ c κs. search needs) (λ c. search needs)
     returns-2
-    slice-aggregate-text-3
-    text-requires-3
-    same-length-3
+    (λ c. search needs) (λ c κs. search needs) (λ c. search needs)
     returns-3
-    slice-aggregate-text-4
-    text-requires-4
-    same-length-4
+    (λ c. search needs) (λ c κs. search needs) (λ c. search needs)
     returns-4)

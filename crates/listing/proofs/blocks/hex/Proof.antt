@@ -5,21 +5,6 @@ use borrow.Author.Needs.{needs}
 use Rattle.listing.proofs.blocks.hex.Statement.{statement}
 use Rattle.listing.proofs.blocks.hex.Tie as tie
 
-hex-digit-requires : tie.Need-hex-digit-requires
-hex-digit-requires c κs = search needs
-
-byte-requires : tie.Need-byte-requires
-byte-requires c κs = search needs
-
-hex-digit-requires-2 : tie.Need-hex-digit-requires-2
-hex-digit-requires-2 c κs = search needs
-
-byte-requires-2 : tie.Need-byte-requires-2
-byte-requires-2 c κs = search needs
-
-same-length : tie.Need-same-length
-same-length c = search needs
-
 returns : tie.Need-returns
 returns c =
     let at-byte2 = c .before .before in
@@ -33,9 +18,5 @@ pub hex-spec : {M : Type 1} → statement M
 hex-spec =
     tie.close
     (tie.spec
-    hex-digit-requires
-    byte-requires
-    hex-digit-requires-2
-    byte-requires-2
-    same-length
+    (λ c κs. search needs) (λ c κs. search needs) (λ c κs. search needs) (λ c κs. search needs) (λ c. search needs)
     returns)

@@ -5,18 +5,6 @@ use borrow.Author.Needs.{needs}
 use Rattle.listing.proofs.blocks.one_column.Statement.{statement}
 use Rattle.listing.proofs.blocks.one_column.Tie as tie
 
-hex-requires : tie.Need-hex-requires
-hex-requires c κs = search needs
-
-slice-aggregate-text : tie.Need-slice-aggregate-text
-slice-aggregate-text c = search needs
-
-text-requires : tie.Need-text-requires
-text-requires c κs = search needs
-
-same-length : tie.Need-same-length
-same-length c = search needs
-
 returns : tie.Need-returns
 returns c =
     let at-text = c .before .before in
@@ -26,4 +14,4 @@ returns c =
 
 pub one-column-spec : {M : Type 1} → statement M
 one-column-spec =
-    tie.close (tie.spec hex-requires slice-aggregate-text text-requires same-length returns)
+    tie.close (tie.spec (λ c κs. search needs) (λ c. search needs) (λ c κs. search needs) (λ c. search needs) returns)

@@ -6,18 +6,6 @@ use Rattle.script.proofs.CheckVerdicts.{legal-length, bad-length}
 use Rattle.script.proofs.checks.check.Statement.{statement}
 use Rattle.script.proofs.checks.check.Tie as tie
 
-check-length-requires : tie.Need-check-length-requires
-check-length-requires c κs = search needs
-
-enum-told : tie.Need-enum-told
-enum-told c = search needs
-
-check-records-requires : tie.Need-check-records-requires
-check-records-requires c κs = search needs
-
-enum-known-fault : tie.Need-enum-known-fault
-enum-known-fault c = search needs
-
 returns : tie.Need-returns
 returns c = c .check-records .ensures ∙ legal-length _ _ (c .before .enum-told .given .1) (c .before .before .before .check-length .ensures)
 
@@ -25,4 +13,4 @@ returns-2 : tie.Need-returns-2
 returns-2 c = bad-length (c .before .before .before .before .before .args .script .now) _ _ (c .before .fault .given .1) (c .before .before .before .check-length .ensures)
 
 pub check-spec : {M : Type 1} → statement M
-check-spec = tie.close (tie.spec check-length-requires enum-told check-records-requires enum-known-fault returns returns-2)
+check-spec = tie.close (tie.spec (λ c κs. search needs) (λ c. search needs) (λ c κs. search needs) (λ c. search needs) returns returns-2)

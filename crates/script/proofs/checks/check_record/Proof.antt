@@ -22,30 +22,12 @@ module _ (s : List ℕ) (i r : ℕ) (is-half : r ≡ littleEndian s (16 * i + 8)
   bad-padding : (v : ℕ) → v ≡ valueOf s i → v ≤ 255 → l < r → badValue k v ≡ false → ltb 0 (littleEndian s (16 * i + 10) 6) ≡ true
   bad-padding v e b h g = lt-ltb 0 (littleEndian s (16 * i + 10) 6) (omega (arith, half s i, largest .2 v b g))
 
-kind-requires : tie.Need-kind-requires
-kind-requires c κs = search needs
-
 returns : tie.Need-returns
 unfolding recordFault checkedFrom
 returns c = rw (← c .before .kind .ensures, lt-ltb _ _ (c .if1 .taken))
 
-mul-number8 : tie.Need-mul-number8
-mul-number8 c = search needs
-
-add-number8 : tie.Need-add-number8
-add-number8 c = search needs
-
 number8-requires : tie.Need-number8-requires
 number8-requires c κs = omega arith
-
-largest-half-requires : tie.Need-largest-half-requires
-largest-half-requires c κs = search needs
-
-value-requires : tie.Need-value-requires
-value-requires c κs = search needs
-
-is-bad-value-requires : tie.Need-is-bad-value-requires
-is-bad-value-requires c κs = search needs
 
 returns-3 : tie.Need-returns-3
 unfolding recordFault checkedFrom
@@ -63,9 +45,6 @@ returns-2 c =
     let v = c .before .before in
     let k = v .before .before .before .before in
     rw (← k .before .kind .ensures, le-ltb _ _ (k .if1 .left), ← v .value .ensures, ← c .before .is-bad-value .ensures, c .if3 .taken)
-
-instant-requires : tie.Need-instant-requires
-instant-requires c κs = search needs
 
 returns-4 : tie.Need-returns-4
 unfolding recordFault checkedFrom
@@ -91,16 +70,13 @@ pub check-record-spec : {M : Type 1} → statement M
 check-record-spec =
     tie.close
     (tie.spec
-    kind-requires
+    (λ c κs. search needs)
     returns
-    mul-number8
-    add-number8
+    (λ c. search needs) (λ c. search needs)
     number8-requires
-    largest-half-requires
-    value-requires
-    is-bad-value-requires
+    (λ c κs. search needs) (λ c κs. search needs) (λ c κs. search needs)
     returns-2
     returns-3
-    instant-requires
+    (λ c κs. search needs)
     returns-4
     returns-5)

@@ -8,14 +8,8 @@ use borrow.Author.Needs.{needs}
 use Rattle.script.proofs.host.clock_script_run.Statement.{statement}
 use Rattle.script.proofs.host.clock_script_run.Tie as tie
 
-run-from-power-on-requires : tie.Need-run-from-power-on-requires
-run-from-power-on-requires c κs = search needs
-
 run-number-requires : tie.Need-run-number-requires
 run-number-requires c κs = rw (c .before .before .run-from-power-on .ensures .answers, power-on-verdict) (run-fits _ _)
-
-same-length : tie.Need-same-length
-same-length c = search needs
 
 returns : tie.Need-returns
 returns c =
@@ -24,4 +18,4 @@ returns c =
 
 pub clock-script-run-spec : {M : Type 1} → statement M
 clock-script-run-spec =
-    tie.close (tie.spec run-from-power-on-requires run-number-requires same-length returns)
+    tie.close (tie.spec (λ c κs. search needs) run-number-requires (λ c. search needs) returns)

@@ -12,47 +12,17 @@ use Rattle.script.proofs.host.fault_number.Tie as tie
 fits : (f g : ScriptFault) → f ≡ g → hostNumber (faultNumbered f) < 4294967296 → hostNumber (faultNumbered g) < 4294967296
 fits f g e h = subst (λ (x : ScriptFault). hostNumber (faultNumbered x) < 4294967296) e h
 
-enum-told : tie.Need-enum-told
-enum-told c = search needs
-
-numbered-requires : tie.Need-numbered-requires
-numbered-requires c κs = search needs
-
-enum-told-2 : tie.Need-enum-told-2
-enum-told-2 c = search needs
-
-numbered-requires-2 : tie.Need-numbered-requires-2
-numbered-requires-2 c κs = search needs
-
-enum-known-fault : tie.Need-enum-known-fault
-enum-known-fault c = search needs
-
 numbered-requires-3 : tie.Need-numbered-requires-3
 numbered-requires-3 c κs = fits _ _ (c .before .fault .given .1) (c .before .before .before .pre)
-
-enum-known-fault-2 : tie.Need-enum-known-fault-2
-enum-known-fault-2 c = search needs
 
 numbered-requires-4 : tie.Need-numbered-requires-4
 numbered-requires-4 c κs = fits _ _ (c .before .fault2 .given .1) (c .before .before .before .pre)
 
-enum-known-fault-3 : tie.Need-enum-known-fault-3
-enum-known-fault-3 c = search needs
-
 numbered-requires-5 : tie.Need-numbered-requires-5
 numbered-requires-5 c κs = fits _ _ (c .before .fault3 .given .1) (c .before .before .before .pre)
 
-enum-known-fault-4 : tie.Need-enum-known-fault-4
-enum-known-fault-4 c = search needs
-
 numbered-requires-6 : tie.Need-numbered-requires-6
 numbered-requires-6 c κs = fits _ _ (c .before .fault4 .given .1) (c .before .before .before .pre)
-
-returns : tie.Need-returns
-returns c = search needs
-
-returns-2 : tie.Need-returns-2
-returns-2 c = search needs
 
 returns-3 : tie.Need-returns-3
 returns-3 c = rw (c .before .before .fault .given .1) (c .numbered3 .ensures)
@@ -70,20 +40,15 @@ pub fault-number-spec : {M : Type 1} → statement M
 fault-number-spec =
     tie.close
     (tie.spec
-    enum-told
-    numbered-requires
-    enum-told-2
-    numbered-requires-2
-    enum-known-fault
+    (λ c. search needs) (λ c κs. search needs) (λ c. search needs) (λ c κs. search needs) (λ c. search needs)
     numbered-requires-3
-    enum-known-fault-2
+    (λ c. search needs)
     numbered-requires-4
-    enum-known-fault-3
+    (λ c. search needs)
     numbered-requires-5
-    enum-known-fault-4
+    (λ c. search needs)
     numbered-requires-6
-    returns
-    returns-2
+    (λ c. search needs) (λ c. search needs)
     returns-3
     returns-4
     returns-5

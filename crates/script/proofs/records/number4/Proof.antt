@@ -6,24 +6,6 @@ use Rattle.script.specs.Records.{littleEndian}
 use Rattle.script.proofs.records.number4.Statement.{statement}
 use Rattle.script.proofs.records.number4.Tie as tie
 
-mul-result : tie.Need-mul-result
-mul-result c = search needs
-
-add-result : tie.Need-add-result
-add-result c = search needs
-
-mul-result-2 : tie.Need-mul-result-2
-mul-result-2 c = search needs
-
-add-result-2 : tie.Need-add-result-2
-add-result-2 c = search needs
-
-mul-result-3 : tie.Need-mul-result-3
-mul-result-3 c = search needs
-
-add-result-3 : tie.Need-add-result-3
-add-result-3 c = search needs
-
 returns : tie.Need-returns
 unfolding littleEndian
 returns c = omega arith
@@ -31,4 +13,5 @@ returns c = omega arith
 pub number4-spec : {M : Type 1} → statement M
 number4-spec =
     tie.close
-    (tie.spec mul-result add-result mul-result-2 add-result-2 mul-result-3 add-result-3 returns)
+    (tie.spec (λ c. search needs) (λ c. search needs) (λ c. search needs) (λ c. search needs) (λ c. search needs)
+    (λ c. search needs) returns)

@@ -5,15 +5,6 @@ use borrow.Author.Needs.{needs}
 use Rattle.script.proofs.runs.bus_event.Statement.{statement}
 use Rattle.script.proofs.runs.bus_event.Tie as tie
 
-instant-requires : tie.Need-instant-requires
-instant-requires c κs = search needs
-
-value-requires : tie.Need-value-requires
-value-requires c κs = search needs
-
-kind-requires : tie.Need-kind-requires
-kind-requires c κs = search needs
-
 returns : tie.Need-returns
 returns c = is-start _ _ _ _ _ (c .before .kind .ensures) (c .before .before .value .ensures) (c .before .before .before .instant .ensures) (c .match .keys1)
 
@@ -28,4 +19,4 @@ returns-4 c = is-stop _ _ _ _ _ (c .before .kind .ensures) (c .before .before .v
 
 pub bus-event-spec : {M : Type 1} → statement M
 bus-event-spec =
-    tie.close (tie.spec instant-requires value-requires kind-requires returns returns-2 returns-3 returns-4)
+    tie.close (tie.spec (λ c κs. search needs) (λ c κs. search needs) (λ c κs. search needs) returns returns-2 returns-3 returns-4)

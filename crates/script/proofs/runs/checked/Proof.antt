@@ -6,9 +6,6 @@ use borrow.Author.Needs.{needs}
 use Rattle.script.proofs.runs.checked.Statement.{statement}
 use Rattle.script.proofs.runs.checked.Tie as tie
 
-is-sound-requires : tie.Need-is-sound-requires
-is-sound-requires c κs = search needs
-
 returns : tie.Need-returns
 unfolding runVerdict
 returns c = λ st l. rw (← (c .before .is-sound .ensures), c .if1 .taken)
@@ -17,13 +14,10 @@ returns-2 : tie.Need-returns-2
 unfolding runVerdict
 returns-2 c = λ st l. rw (← (c .before .before .is-sound .ensures), c .before .if1 .left, l, ne-eqb _ _ (c .if2 .taken))
 
-checked-run-requires : tie.Need-checked-run-requires
-checked-run-requires c κs = search needs
-
 returns-3 : tie.Need-returns-3
 unfolding runVerdict
 returns-3 c = λ st l. rw (← (c .before .before .before .is-sound .ensures), c .before .before .if1 .left, l, eq-eqb _ _ (c .before .if2 .left)) (c .checked-run .ensures)
 
 pub checked-spec : {M : Type 1} → statement M
 checked-spec =
-    tie.close (tie.spec is-sound-requires returns returns-2 checked-run-requires returns-3)
+    tie.close (tie.spec (λ c κs. search needs) returns returns-2 (λ c κs. search needs) returns-3)

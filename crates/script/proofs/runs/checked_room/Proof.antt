@@ -10,15 +10,6 @@ returns : tie.Need-returns
 unfolding checkedRun
 returns c = rw (c .before .before .pre, ne-eqb _ _ (c .if1 .taken))
 
-check-records-requires : tie.Need-check-records-requires
-check-records-requires c κs = search needs
-
-enum-told : tie.Need-enum-told
-enum-told c = search needs
-
-enum-known-first : tie.Need-enum-known-first
-enum-known-first c = search needs
-
 returns-2 : tie.Need-returns-2
 unfolding checkedRun
 returns-2 c = rw (c .before .before .before .before .before .pre, eq-eqb _ _ (c .before .before .before .if1 .left), ← (c .before .before .check-records .ensures), c .enum-told .given .1)
@@ -30,4 +21,4 @@ returns-3 c = rw (c .before .before .before .before .before .before .pre, eq-eqb
 pub checked-room-spec : {M : Type 1} → statement M
 checked-room-spec =
     tie.close
-    (tie.spec returns check-records-requires enum-told enum-known-first returns-2 returns-3)
+    (tie.spec returns (λ c κs. search needs) (λ c. search needs) (λ c. search needs) returns-2 returns-3)

@@ -8,17 +8,8 @@ use borrow.Author.Needs.{needs}
 use Rattle.script.proofs.runs.checked_run.Statement.{statement}
 use Rattle.script.proofs.runs.checked_run.Tie as tie
 
-check-length-requires : tie.Need-check-length-requires
-check-length-requires c κs = search needs
-
-enum-told : tie.Need-enum-told
-enum-told c = search needs
-
 checked-room-requires : tie.Need-checked-room-requires
 checked-room-requires c κs = sym (c .before .before .check-length .ensures) ∙ ap checkNumbered (c .enum-told .given .1)
-
-enum-known-fault : tie.Need-enum-known-fault
-enum-known-fault c = search needs
 
 returns : tie.Need-returns
 returns c = c .checked-room .ensures
@@ -31,9 +22,8 @@ pub checked-run-spec : {M : Type 1} → statement M
 checked-run-spec =
     tie.close
     (tie.spec
-    check-length-requires
-    enum-told
+    (λ c κs. search needs) (λ c. search needs)
     checked-room-requires
-    enum-known-fault
+    (λ c. search needs)
     returns
     returns-2)

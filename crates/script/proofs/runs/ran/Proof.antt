@@ -11,17 +11,8 @@ use Rattle.script.proofs.runs.ran.Tie as tie
 returns-2 : tie.Need-returns-2
 returns-2 c = is-refused _ _ _ _ _ _ (c .before .checked .ensures) (λ e. ⊎-elim (λ x. omega (arith, x)) (⊎-elim (λ x. omega (arith, x)) (⊎-elim (λ x. omega (arith, x)) (λ x. omega (arith, x)))) (rw e at (c .match .keys2)))
 
-checked-requires : tie.Need-checked-requires
-checked-requires c κs = search needs
-
-enum-told : tie.Need-enum-told
-enum-told c = search needs
-
 events-requires : tie.Need-events-requires
 events-requires c κs = accepted-values _ _ _ _ _ (c .before .before .before .checked .ensures) (c .before .enum-told .given .1) _ (search needs)
-
-same-length : tie.Need-same-length
-same-length c = search needs
 
 returns : tie.Need-returns
 returns c =
@@ -30,4 +21,4 @@ returns c =
 
 pub ran-spec : {M : Type 1} → statement M
 ran-spec =
-    tie.close (tie.spec checked-requires enum-told events-requires same-length returns returns-2)
+    tie.close (tie.spec (λ c κs. search needs) (λ c. search needs) events-requires (λ c. search needs) returns returns-2)

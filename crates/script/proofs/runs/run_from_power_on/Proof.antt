@@ -8,18 +8,6 @@ use borrow.Author.Needs.{needs}
 use Rattle.script.proofs.runs.run_from_power_on.Statement.{statement}
 use Rattle.script.proofs.runs.run_from_power_on.Tie as tie
 
-power-on-requires : tie.Need-power-on-requires
-power-on-requires c κs = search needs
-
-unwritten-requires : tie.Need-unwritten-requires
-unwritten-requires c κs = search needs
-
-run-values-requires : tie.Need-run-values-requires
-run-values-requires c κs = search needs
-
-same-length : tie.Need-same-length
-same-length c = search needs
-
 returns : tie.Need-returns
 returns c =
     let r = c .before .before in
@@ -28,4 +16,4 @@ returns c =
 pub run-from-power-on-spec : {M : Type 1} → statement M
 run-from-power-on-spec =
     tie.close
-    (tie.spec power-on-requires unwritten-requires run-values-requires same-length returns)
+    (tie.spec (λ c κs. search needs) (λ c κs. search needs) (λ c κs. search needs) (λ c. search needs) returns)

@@ -5,7 +5,7 @@ use mir.Syntax.{w8, w64, tyInt, tyBool, tnil, tcons}
 use mir.Val.{vbool, vint, vnil, vcons}
 use denote.Struct.Laws as LL
 use Rattle.walking.proofs.Data.{Data, of-struct}
-use Rattle.walking.proofs.One.{Sessions, SesLaws}
+use Rattle.walking.proofs.One.{Sessions, session-of, SesLaws}
 use Rattle.walking.proofs.Session.{ses-laws}
 use Rattle.walking.proofs.Extras.{number, flag}
 use Rattle.walking.proofs.Picks.{Inputs, InLaws, Pick}
@@ -16,11 +16,6 @@ use Rattle.diagnostics.proofs.I2cDiagnostic.Laws as D′
 use Rattle.ds3231_bus.proofs.Rows.{chip, chip-data}
 use Rattle.ds3231_bus.proofs.BusRows.{answer as bus-answer, answer-data as bus-answer-data}
 use Rattle.ds3231_bus.proofs.TakingRows.{answer as take-answer, answer-data as take-answer-data}
-use Rattle.bus_by_value.specs.declared.Session.{Session}
-use Rattle.bus_by_value.specs.declared.ShortSession.{ShortSession}
-use Rattle.bus_by_value.specs.declared.Emptied.{Emptied}
-use Rattle.bus_by_value.specs.declared.ShortEmptied.{ShortEmptied}
-use Rattle.bus_by_value.specs.declared.Reporting.{Reporting}
 use Rattle.bus_by_value.specs.declared.Values.{Values}
 use Rattle.bus_by_value.specs.declared.ReportValues.{ReportValues}
 use Rattle.bus_by_value.proofs.Session as S
@@ -40,18 +35,7 @@ use Rattle.bus_by_value.proofs.ReportValues.Laws as W′
 
 -- a session
 abbrev pub session : Sessions chip bus-answer diagnostic
-session = record {
-  Denot = Session;
-  name = S.struct .name;
-  written = S.the-row .written;
-  reaches = S.the-row .reaches;
-  own = S.the-row .own;
-  coded = S.the-row .coded;
-  chip-in = λ s. s .chip;
-  store-in = λ s. s .store;
-  answer-in = λ s. s .answer;
-  make = λ c zs r. record { chip = c; store = zs; answer = r };
-}
+session = session-of chip bus-answer diagnostic (S.struct .name) S.the-row (λ s. s .chip) (λ s. s .store) (λ s. s .answer) (λ c zs r. record { chip = c; store = zs; answer = r })
 
 pub session-laws : SesLaws chip bus-answer diagnostic session chip-data bus-answer-data diagnostic-data 256
 session-laws =
@@ -60,18 +44,7 @@ session-laws =
 
 -- a session with a store of 255 records
 abbrev pub short-session : Sessions chip bus-answer diagnostic
-short-session = record {
-  Denot = ShortSession;
-  name = T.struct .name;
-  written = T.the-row .written;
-  reaches = T.the-row .reaches;
-  own = T.the-row .own;
-  coded = T.the-row .coded;
-  chip-in = λ s. s .chip;
-  store-in = λ s. s .store;
-  answer-in = λ s. s .answer;
-  make = λ c zs r. record { chip = c; store = zs; answer = r };
-}
+short-session = session-of chip bus-answer diagnostic (T.struct .name) T.the-row (λ s. s .chip) (λ s. s .store) (λ s. s .answer) (λ c zs r. record { chip = c; store = zs; answer = r })
 
 pub short-session-laws : SesLaws chip bus-answer diagnostic short-session chip-data bus-answer-data diagnostic-data 255
 short-session-laws =
@@ -80,18 +53,7 @@ short-session-laws =
 
 -- what taking into 256 records gives back
 abbrev pub emptied : Sessions chip take-answer diagnostic
-emptied = record {
-  Denot = Emptied;
-  name = E.struct .name;
-  written = E.the-row .written;
-  reaches = E.the-row .reaches;
-  own = E.the-row .own;
-  coded = E.the-row .coded;
-  chip-in = λ s. s .chip;
-  store-in = λ s. s .out;
-  answer-in = λ s. s .answer;
-  make = λ c zs r. record { chip = c; out = zs; answer = r };
-}
+emptied = session-of chip take-answer diagnostic (E.struct .name) E.the-row (λ s. s .chip) (λ s. s .out) (λ s. s .answer) (λ c zs r. record { chip = c; out = zs; answer = r })
 
 pub emptied-laws : SesLaws chip take-answer diagnostic emptied chip-data take-answer-data diagnostic-data 256
 emptied-laws =
@@ -100,18 +62,7 @@ emptied-laws =
 
 -- what taking into two records gives back
 abbrev pub short-emptied : Sessions chip take-answer diagnostic
-short-emptied = record {
-  Denot = ShortEmptied;
-  name = F.struct .name;
-  written = F.the-row .written;
-  reaches = F.the-row .reaches;
-  own = F.the-row .own;
-  coded = F.the-row .coded;
-  chip-in = λ s. s .chip;
-  store-in = λ s. s .out;
-  answer-in = λ s. s .answer;
-  make = λ c zs r. record { chip = c; out = zs; answer = r };
-}
+short-emptied = session-of chip take-answer diagnostic (F.struct .name) F.the-row (λ s. s .chip) (λ s. s .out) (λ s. s .answer) (λ c zs r. record { chip = c; out = zs; answer = r })
 
 pub short-emptied-laws : SesLaws chip take-answer diagnostic short-emptied chip-data take-answer-data diagnostic-data 2
 short-emptied-laws =
@@ -120,18 +71,7 @@ short-emptied-laws =
 
 -- what a report gives back
 abbrev pub reporting : Sessions counts report-answer diagnostic
-reporting = record {
-  Denot = Reporting;
-  name = R.struct .name;
-  written = R.the-row .written;
-  reaches = R.the-row .reaches;
-  own = R.the-row .own;
-  coded = R.the-row .coded;
-  chip-in = λ s. s .counts;
-  store-in = λ s. s .store;
-  answer-in = λ s. s .answer;
-  make = λ c zs r. record { counts = c; store = zs; answer = r };
-}
+reporting = session-of counts report-answer diagnostic (R.struct .name) R.the-row (λ s. s .counts) (λ s. s .store) (λ s. s .answer) (λ c zs r. record { counts = c; store = zs; answer = r })
 
 pub reporting-laws : SesLaws counts report-answer diagnostic reporting counts-data report-answer-data diagnostic-data 256
 reporting-laws =

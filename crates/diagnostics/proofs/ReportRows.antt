@@ -1,18 +1,20 @@
--- The types of `report` as the walk of `Drive.antt` takes them, and what it asks of the contracts.
+-- The types of `report` as the walk of `Reporting.antt` takes them, and what it asks of the contracts.
 -- Assumes nothing.
 use mathlib.Core.List.{List, [], _∷_}
+use mathlib.Core.Path.{refl, sym, subst}
 use mir.Syntax.{w64}
 use denote.Struct.Laws as LL
 use Rattle.walking.proofs.Data.{Data, of-struct, of-enum}
-use Rattle.walking.proofs.One.{One, one-of, Outcomes, OutLaws}
+use Rattle.walking.proofs.One.{One, one-of}
+use Rattle.walking.proofs.Outcome.{Outcomes, OutLaws, outcome-of}
 use Rattle.walking.proofs.Extras.{Extra, number}
-use Rattle.walking.proofs.Drive.{Makes, Claims, Shown}
+use Rattle.walking.proofs.Lending.{Makings, Claims}
+use Rattle.walking.proofs.Reporting.{Shown}
 use Rattle.diagnostics.specs.Reports.{report}
 use Rattle.diagnostics.specs.Lent.{ReportedTo}
 use Rattle.diagnostics.specs.ByValue.{ReportedOnStores}
-use Rattle.diagnostics.specs.declared.ReportOutcome.{ReportOutcome}
-use Rattle.diagnostics.proofs.Rows.{diagnostic, diagnostic-data}
-use Rattle.diagnostics.proofs.Stores.{write-within, writes, leaves}
+use Rattle.diagnostics.specs.declared.I2cDiagnostic.{I2cDiagnostic}
+use Rattle.diagnostics.proofs.Rows.{diagnostic, posting, Posted}
 use Rattle.diagnostics.proofs.Diagnostics as C
 use Rattle.diagnostics.proofs.Diagnostics.Laws as C′
 use Rattle.diagnostics.proofs.ReportAnswer as N
@@ -37,32 +39,11 @@ answer = one-of N.the-row N′.mir
 abbrev outcome-data : Data O.the-row
 outcome-data = of-struct O.the-type O′.the-laws O′.the-plain O′.the-copy
 
-abbrev pub outcome : Outcomes counts answer diagnostic
-outcome = record {
-  Denot = ReportOutcome;
-  name = O.struct .name;
-  written = O.the-row .written;
-  reaches = O.the-row .reaches;
-  own = O.the-row .own;
-  exit = O.the-row .exit;
-  coded = O.the-row .coded;
-  chip-in = λ r. r .counts;
-  answer-in = λ r. r .answer;
-  write-in = λ r. r .write;
-  slot-in = λ r. r .slot;
-  note-in = λ r. r .diagnostic;
-}
+abbrev pub outcome : Outcomes counts answer (posting ∷ [])
+outcome = outcome-of counts answer (posting ∷ []) (O.struct .name) O.the-row (λ r. r .counts) (λ r. r .answer) (λ r. (r .posting, tt))
 
-abbrev pub laws : OutLaws counts answer diagnostic outcome counts-data answer-data diagnostic-data
-laws = record {
-  tells = outcome-data .tells;
-  lawful = outcome-data .lawful;
-  makes = outcome-data .makes;
-  copy = outcome-data .copy;
-  chip-is = λ r is. LL.owed O.the-type O′.the-laws r _ is .0;
-  answer-is = λ r is. LL.owed O.the-type O′.the-laws r _ is .1 .0;
-  note-is = λ r is. LL.owed O.the-type O′.the-laws r _ is .1 .1 .1 .1 .0;
-}
+abbrev pub laws : OutLaws counts answer (posting ∷ []) outcome counts-data answer-data
+laws = record { tells = outcome-data .tells; lawful = outcome-data .lawful; makes = outcome-data .makes; copy = outcome-data .copy; parts = λ r is. LL.owed O.the-type O′.the-laws r _ is }
 
 -- what `report` is passed beside counts and store: a kind and an instant
 abbrev pub kind : Extra
@@ -71,15 +52,11 @@ kind = record { one = one-of K.the-row K′.mir; laws = of-enum K.the-type K′.
 abbrev pub kind-at : List Extra
 kind-at = kind ∷ number w64 ∷ []
 
-abbrev Made : Makes counts answer diagnostic kind-at outcome
+abbrev Made : Makings counts answer diagnostic kind-at O.the-row
 Made n len xs r = ReportedOnStores n len (report (xs .1 .0) (xs .0)) r
 
 abbrev pub Said : Claims counts answer diagnostic kind-at
 Said n s xs a n′ s′ = ReportedTo n s (report (xs .1 .0) (xs .0)) a n′ s′
 
-pub shown : Shown counts answer diagnostic kind-at outcome Made Said
-shown = record {
-  slot-within = λ n len xs r on. write-within _ _ _ _ len on;
-  shows-yes = λ n s xs r on. writes _ _ _ _ s on;
-  shows-no = λ n s xs r on. leaves _ _ _ _ s on;
-}
+pub shown : Shown counts answer diagnostic posting kind-at outcome Made Posted Said
+shown = record { shows = λ n xs r s s′ on did. subst (λ (z : List I2cDiagnostic). Said n s xs (r .answer) (r .counts) z) (sym did) (on s refl) }

@@ -1,32 +1,30 @@
--- What holds of every store and of the store after it, in the two cases of the write.
+-- A report posted at the waiting count is a report stored, one or several in turn: past its last place, the store is left as it was.
 -- Assumes nothing.
-use Prim.Native.Nat.{ℕ, _<_}
+use Prim.Native.Nat.{ℕ, _≤_}
 use mathlib.Core.Bool.{Bool, true, false, not}
-use mathlib.Core.List.{List}
-use mathlib.Core.Path.{_≡_, refl, subst}
-use lib.Dec.{T}
-use lib.ListN.{length, set}
-use Rattle.diagnostics.specs.ByValue.{writtenIf, OnStores}
+use mathlib.Core.List.{List, [], _∷_}
+use mathlib.Core.Path.{_≡_, refl, sym, _∙_, ap, subst}
+use lib.Dec.{T, ltb, nltb→le}
+use lib.ListN.{length, set, length-set}
+use lib.Seq.{set-out}
+use Rattle.computed.specs.Choice.{if_then_else_}
+use Rattle.diagnostics.specs.Reports.{counted, stored, storedAll}
+use Rattle.diagnostics.specs.ByValue.{posted}
+use Rattle.diagnostics.specs.declared.Diagnostics.{Diagnostics}
 use Rattle.diagnostics.specs.declared.I2cDiagnostic.{I2cDiagnostic}
+use Rattle.diagnostics.specs.declared.Posting.{Posting}
 
-is-true : (w : Bool) → T w → w ≡ true
-is-true true t = refl
-is-true false t = absurd t
+-- a record at the waiting count of n
+abbrev pub postOf : Diagnostics → I2cDiagnostic → Posting
+postOf n d = record { write = true; slot = n .waiting; «record» = d }
 
-is-set : (w : Bool) (i : ℕ) (d : I2cDiagnostic) (s : List I2cDiagnostic) → T w → writtenIf w i d s ≡ set s i d
-is-set true i d s t = refl
-is-set false i d s t = absurd t
+pub post-stores : (n : Diagnostics) (d : I2cDiagnostic) (s : List I2cDiagnostic) → length s ≡ 256 → posted (postOf n d) s ≡ stored n d s
+post-stores n d s l = by (ltb (n .waiting) 256) refl
+  where
+    by : (w : Bool) → ltb (n .waiting) 256 ≡ w → set s (n .waiting) d ≡ (if w then set s (n .waiting) d else s)
+    by true q = refl
+    by false q = set-out s (n .waiting) d (subst (λ (m : ℕ). m ≤ n .waiting) (sym l) (nltb→le (n .waiting) 256 (subst (λ (z : Bool). T (not z)) (sym q) tt)))
 
-is-left : (w : Bool) (i : ℕ) (d : I2cDiagnostic) (s : List I2cDiagnostic) → T (not w) → writtenIf w i d s ≡ s
-is-left true i d s t = absurd t
-is-left false i d s t = refl
-
-module _ (w : Bool) (i : ℕ) (d : I2cDiagnostic) (P : List I2cDiagnostic → List I2cDiagnostic → Type 0) where
-  pub write-within : (len : ℕ) → OnStores len w i d P → T w → i < len
-  write-within len on t = on .within (is-true w t)
-
-  pub writes : (s : List I2cDiagnostic) → OnStores (length s) w i d P → T w → P s (set s i d)
-  writes s on t = subst (λ (s′ : List I2cDiagnostic). P s s′) (is-set w i d s t) (on .did s refl)
-
-  pub leaves : (s : List I2cDiagnostic) → OnStores (length s) w i d P → T (not w) → P s s
-  leaves s on t = subst (λ (s′ : List I2cDiagnostic). P s s′) (is-left w i d s t) (on .did s refl)
+-- two reports of one call, posted in turn: the second at the count that the first leaves
+pub posts-in-turn : (n : Diagnostics) (d e : I2cDiagnostic) (s : List I2cDiagnostic) → length s ≡ 256 → posted (postOf (counted n) e) (posted (postOf n d) s) ≡ storedAll (d ∷ e ∷ []) n s
+posts-in-turn n d e s l = post-stores (counted n) e (set s (n .waiting) d) (length-set s (n .waiting) d ∙ l) ∙ ap (stored (counted n) e) (post-stores n d s l)

@@ -35,6 +35,10 @@ lineOf (NotModelled b) = record { word = NOTMODELLED; register = number 0x0E; by
 abbrev pub report : ℕ → I2cDiagnosticKind → I2cDiagnostic
 report t kind = record { at = t; chip = Ds3231; kind = kind }
 
+-- what stands in a record that no report was written to: it is left free, since none of these waits
+abbrev pub unwritten : I2cDiagnostic
+unwritten = report 0 (ReadOnly 0)
+
 -- 'Diagnostics': the store keeps 256 records; a report to a full store is counted as dropped. One more waits while fewer than 256 do, else one more is dropped, up to the largest number of 64 bits
 abbrev pub counted : Diagnostics → Diagnostics
 counted n = record {

@@ -1,11 +1,10 @@
 // What a chip on the bus reports: the kinds, the record, the lent store of 256 records and its counts.
 // To read it: `specs/Reports.antt` has what a report does to the store and the counts, and document 01's word, register and
 // byte of each kind; `specs/Lent.antt` has what `report` promises of the counts and the store that it is lent.
-ghost use mathlib.Core.Bool.{false};
 ghost use mathlib.Core.Path.{_≡_};
-ghost use Rattle.diagnostics.specs.Reports.{counted, report as reportOf};
+ghost use Rattle.diagnostics.specs.Reports.{counted, unwritten, report as reportOf};
 ghost use Rattle.diagnostics.specs.Lent.{ReportedTo};
-ghost use Rattle.diagnostics.specs.ByValue.{ReportedOnStores};
+ghost use Rattle.diagnostics.specs.ByValue.{posted, noPosting, ReportedOnStores};
 
 // How many records the store has room for.
 pub const MAX_DIAGNOSTICS: usize = 256;
@@ -33,6 +32,40 @@ pub struct I2cDiagnostic {
     pub kind: I2cDiagnosticKind,
 }
 
+impl I2cDiagnostic {
+    // What stands in a record that no report was written to.
+    pub fn unwritten() -> I2cDiagnostic
+        ensures { λ r. ⌜ r ≡ unwritten ⌝ }
+    {
+        I2cDiagnostic {
+            at: 0,
+            chip: ChipName::Ds3231,
+            kind: I2cDiagnosticKind::ReadOnly { register: 0 },
+        }
+    }
+}
+
+// A record with its place in the store, if there is one to write.
+pub struct Posting {
+    pub write: bool,
+    pub slot: usize,
+    pub record: I2cDiagnostic,
+}
+
+impl Posting {
+    // No record to write.
+    pub fn none() -> Posting
+        ensures { λ r. ⌜ r ≡ noPosting ⌝ }
+    {
+        let record = I2cDiagnostic::unwritten();
+        Posting {
+            write: false,
+            slot: 0,
+            record,
+        }
+    }
+}
+
 // How many records wait in the store, from its start, and how many reports were dropped since power-on.
 pub struct Diagnostics {
     pub waiting: usize,
@@ -48,13 +81,11 @@ pub enum ReportAnswer {
     StoreLength,
 }
 
-// What a report leaves of the counts, its answer, and the record with its place in the store, if it writes one.
+// What a report leaves of the counts, its answer, and the record to write.
 struct ReportOutcome {
     counts: Diagnostics,
     answer: ReportAnswer,
-    write: bool,
-    slot: usize,
-    diagnostic: I2cDiagnostic,
+    posting: Posting,
 }
 
 // The counts after one more report: it waits in the store, or is dropped where the store is full.
@@ -84,46 +115,55 @@ pub fn report(
     let c = *counts;
     let out = reported(c, store.len(), kind, at);
     *counts = out.counts;
-    if out.write {
-        store[out.slot] = out.diagnostic;
-    }
+    post(store, out.posting);
     out.answer
+}
+
+// Writes a record into a lent store, if there is one and the store has its place. No other function writes a lent record.
+pub fn post(store: &mut [I2cDiagnostic], posting: Posting)
+    ensures { λ _. ⌜ now (store .exit) ≡ posted posting (now (store .entry)) ⌝ }
+{
+    if posting.write {
+        if posting.slot < store.len() {
+            store[posting.slot] = posting.record;
+        }
+    }
 }
 
 // A report by value, into a store of `len` records.
 fn reported(counts: Diagnostics, len: usize, kind: I2cDiagnosticKind, at: u64) -> ReportOutcome
     ensures { λ r. ⌜ ReportedOnStores counts len (reportOf at kind) r ⌝ }
 {
-    let diagnostic = I2cDiagnostic {
+    if counts.waiting > MAX_DIAGNOSTICS {
+        return refused(counts, ReportAnswer::NotSound);
+    }
+    if len != MAX_DIAGNOSTICS {
+        return refused(counts, ReportAnswer::StoreLength);
+    }
+    let record = I2cDiagnostic {
         at,
         chip: ChipName::Ds3231,
         kind,
     };
-    if counts.waiting > MAX_DIAGNOSTICS {
-        return refused(counts, ReportAnswer::NotSound, diagnostic);
-    }
-    if len != MAX_DIAGNOSTICS {
-        return refused(counts, ReportAnswer::StoreLength, diagnostic);
-    }
-    let slot = counts.waiting;
+    let posting = Posting {
+        write: true,
+        slot: counts.waiting,
+        record,
+    };
     ReportOutcome {
         counts: one_more(counts),
         answer: ReportAnswer::Done,
-        write: slot < MAX_DIAGNOSTICS,
-        slot,
-        diagnostic,
+        posting,
     }
 }
 
 // A refusal leaves the counts and writes nothing.
-fn refused(counts: Diagnostics, answer: ReportAnswer, diagnostic: I2cDiagnostic) -> ReportOutcome
-    ensures { λ r. ⌜ r ≡ record { counts = counts; answer = answer; write = false; slot = 0; diagnostic = diagnostic } ⌝ }
+fn refused(counts: Diagnostics, answer: ReportAnswer) -> ReportOutcome
+    ensures { λ r. ⌜ r ≡ record { counts = counts; answer = answer; posting = noPosting } ⌝ }
 {
     ReportOutcome {
         counts,
         answer,
-        write: false,
-        slot: 0,
-        diagnostic,
+        posting: Posting::none(),
     }
 }

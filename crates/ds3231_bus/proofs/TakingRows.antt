@@ -8,7 +8,8 @@ use denote.Struct.Laws as LL
 use Rattle.walking.proofs.Data.{Data, of-struct, of-enum}
 use Rattle.walking.proofs.One.{One, one-of}
 use Rattle.walking.proofs.Copied.{Copied}
-use Rattle.walking.proofs.Taking.{Takings, TakLaws}
+use Rattle.walking.proofs.Outcome.{Outcomes, OutLaws, outcome-of}
+use Rattle.walking.proofs.Taking.{counting}
 use Rattle.diagnostics.specs.declared.I2cDiagnostic.{I2cDiagnostic}
 use Rattle.ds3231.specs.declared.Ds3231.{Ds3231}
 use Rattle.ds3231_bus.specs.Answers.{Took}
@@ -29,29 +30,11 @@ answer = one-of N.the-row N′.mir
 abbrev taking-data : Data O.the-row
 taking-data = of-struct O.the-type O′.the-laws O′.the-plain O′.the-copy
 
-abbrev pub taking : Takings chip answer
-taking = record {
-  Denot = Taking;
-  name = O.struct .name;
-  written = O.the-row .written;
-  reaches = O.the-row .reaches;
-  own = O.the-row .own;
-  exit = O.the-row .exit;
-  coded = O.the-row .coded;
-  chip-in = λ r. r .chip;
-  answer-in = λ r. r .answer;
-  count-in = λ r. r .count;
-}
+abbrev pub taking : Outcomes chip answer counting
+taking = outcome-of chip answer counting (O.struct .name) O.the-row (λ r. r .chip) (λ r. r .answer) (λ r. (r .count, tt))
 
-abbrev pub laws : TakLaws chip answer taking chip-data answer-data
-laws = record {
-  tells = taking-data .tells;
-  lawful = taking-data .lawful;
-  makes = taking-data .makes;
-  copy = taking-data .copy;
-  chip-is = λ r is. LL.owed O.the-type O′.the-laws r _ is .0;
-  answer-is = λ r is. LL.owed O.the-type O′.the-laws r _ is .1 .0;
-}
+abbrev pub laws : OutLaws chip answer counting taking chip-data answer-data
+laws = record { tells = taking-data .tells; lawful = taking-data .lawful; makes = taking-data .makes; copy = taking-data .copy; parts = λ r is. LL.owed O.the-type O′.the-laws r _ is }
 
 pub within : (c : Ds3231) (len room : ℕ) (r : Taking) → TookOnStores c len room r → (r .count ≤ len) × (r .count ≤ room)
 within c len room r on = (on .in-store, on .in-out)

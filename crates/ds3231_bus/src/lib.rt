@@ -1,9 +1,10 @@
 // The DS3231 as a target on the bus: the public calls take the chip by mutable reference and a lent store of 256 records.
 // Each is thin: it copies the chip out, asks a function by value what the call leaves (`outcomes`, `takings`), and stores
-// that. `I2cTarget` is a trait in the Rust; here its four calls are free functions.
+// that; a report goes to the store by `diagnostics::post`. `I2cTarget` is a trait in the Rust; here its four calls are free functions.
 ghost use Rattle.ds3231.specs.declared.Event.the-variants.{Start, Write, Read, Stop};
 ghost use Rattle.ds3231_bus.specs.Answers.{Called, Took};
 use diagnostics::I2cDiagnostic;
+use diagnostics::post;
 use ds3231::Ds3231;
 use ds3231::Reply;
 
@@ -41,9 +42,7 @@ pub fn address(
     let c = *chip;
     let out = outcomes::addressed(c, store.len(), address, read, at);
     *chip = out.chip;
-    if out.write {
-        store[out.slot] = out.diagnostic;
-    }
+    post(store, out.posting);
     out.answer
 }
 
@@ -54,13 +53,11 @@ pub fn write(chip: &mut Ds3231, store: &mut [I2cDiagnostic], byte: u8, at: u64) 
     let c = *chip;
     let out = outcomes::written(c, store.len(), byte, at);
     *chip = out.chip;
-    if out.write {
-        store[out.slot] = out.diagnostic;
-    }
+    post(store, out.posting);
     out.answer
 }
 
-// READ: the byte at the pointer, 0xFF where the chip is not addressed for reading.
+// READ: the byte at the pointer, 0xFF where the chip is not addressed for reading. It reports nothing.
 pub fn read(
     chip: &mut Ds3231,
     store: &mut [I2cDiagnostic],
@@ -72,9 +69,6 @@ pub fn read(
     let c = *chip;
     let out = outcomes::has_read(c, store.len(), acknowledged, at);
     *chip = out.chip;
-    if out.write {
-        store[out.slot] = out.diagnostic;
-    }
     out.answer
 }
 
@@ -85,9 +79,7 @@ pub fn stop(chip: &mut Ds3231, store: &mut [I2cDiagnostic], at: u64) -> BusAnswe
     let c = *chip;
     let out = outcomes::stopped(c, store.len(), at);
     *chip = out.chip;
-    if out.write {
-        store[out.slot] = out.diagnostic;
-    }
+    post(store, out.posting);
     out.answer
 }
 

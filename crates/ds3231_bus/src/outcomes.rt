@@ -1,29 +1,29 @@
-// The bus calls by value: what each leaves with a store of `len` records, and the record with its place in the store, if
-// one is written.
+// The bus calls by value: what each leaves with a store of `len` records, and the record to write, if there is one. A READ
+// writes none.
+ghost use mathlib.Core.Path.{_≡_};
 ghost use Rattle.ds3231.specs.declared.Event.the-variants.{Start, Write, Read, Stop};
+ghost use Rattle.diagnostics.specs.ByValue.{noPosting};
 ghost use Rattle.ds3231_step.specs.Answers.{reportsOf};
-ghost use Rattle.ds3231_bus.specs.ByValue.{CalledOnStores, WritesReports, Unwritten};
-ghost use Rattle.ds3231_bus.specs.declared.BusAnswer.the-variants.{Replied};
+ghost use Rattle.ds3231_bus.specs.ByValue.{CalledOnStores, ReadOnStores, PostsReports};
 use crate::BusAnswer;
-use diagnostics::ChipName;
 use diagnostics::Diagnostics;
-use diagnostics::I2cDiagnostic;
-use diagnostics::I2cDiagnosticKind;
 use diagnostics::MAX_DIAGNOSTICS;
+use diagnostics::Posting;
 use ds3231::Ds3231;
 use ds3231::Event;
 use ds3231_chip::is_sound;
 use ds3231_step::Report;
-use ds3231_step::Stepped;
 use ds3231_step::step;
 
-// What `slot` and `diagnostic` hold where no record is written is left free.
 pub(crate) struct Outcome {
     pub(crate) chip: Ds3231,
     pub(crate) answer: BusAnswer,
-    pub(crate) write: bool,
-    pub(crate) slot: usize,
-    pub(crate) diagnostic: I2cDiagnostic,
+    pub(crate) posting: Posting,
+}
+
+pub(crate) struct ReadOutcome {
+    pub(crate) chip: Ds3231,
+    pub(crate) answer: BusAnswer,
 }
 
 // START, with a store of `len` records.
@@ -41,10 +41,13 @@ pub(crate) fn written(chip: Ds3231, len: usize, byte: u8, at: u64) -> Outcome
 }
 
 // READ, with a store of `len` records.
-pub(crate) fn has_read(chip: Ds3231, len: usize, acknowledged: bool, at: u64) -> Outcome
-    ensures { λ r. ⌜ CalledOnStores (Read acknowledged at) chip len r ⌝ }
+pub(crate) fn has_read(chip: Ds3231, len: usize, acknowledged: bool, at: u64) -> ReadOutcome
+    ensures { λ r. ⌜ ReadOnStores acknowledged at chip len r ⌝ }
 {
-    called(chip, len, Event::Read { acknowledged, at })
+    let out = called(chip, len, Event::Read { acknowledged, at });
+    let chip = out.chip;
+    let answer = out.answer;
+    ReadOutcome { chip, answer }
 }
 
 // STOP, with a store of `len` records.
@@ -59,52 +62,44 @@ fn called(chip: Ds3231, len: usize, event: Event) -> Outcome
     ensures { λ r. ⌜ CalledOnStores event chip len r ⌝ }
 {
     if !is_sound(chip) {
-        return unwritten(chip, BusAnswer::NotSound);
+        return refused(chip, BusAnswer::NotSound);
     }
     if len != MAX_DIAGNOSTICS {
-        return unwritten(chip, BusAnswer::StoreLength);
+        return refused(chip, BusAnswer::StoreLength);
     }
     let counts = chip.diagnostics;
-    stored(step(chip, event), counts)
-}
-
-// The report is written at the waiting count before it, unless the store is full.
-fn stored(stepped: Stepped, counts: Diagnostics) -> Outcome
-    ensures { λ r. ⌜ WritesReports (stepped .chip) (Replied (stepped .reply)) (reportsOf (stepped .report)) counts r ⌝ }
-{
+    let stepped = step(chip, event);
     let chip = stepped.chip;
     let reply = stepped.reply;
     let report = stepped.report;
-    match report {
-        Report::None => unwritten(chip, BusAnswer::Replied(reply)),
-        Report::One(diagnostic) => Outcome {
-            chip,
-            answer: BusAnswer::Replied(reply),
-            write: counts.waiting < MAX_DIAGNOSTICS,
-            slot: counts.waiting,
-            diagnostic,
-        },
+    Outcome {
+        chip,
+        answer: BusAnswer::Replied(reply),
+        posting: posting(report, counts),
     }
 }
 
-// No record is written.
-fn unwritten(chip: Ds3231, answer: BusAnswer) -> Outcome
-    ensures { λ r. ⌜ Unwritten chip answer r ⌝ }
+// A refusal leaves the chip and writes nothing.
+fn refused(chip: Ds3231, answer: BusAnswer) -> Outcome
+    ensures { λ r. ⌜ r ≡ record { chip = chip; answer = answer; posting = noPosting } ⌝ }
 {
     Outcome {
         chip,
         answer,
-        write: false,
-        slot: 0,
-        diagnostic: no_diagnostic(),
+        posting: Posting::none(),
     }
 }
 
-// What stands where no record is written. Nothing reads it.
-fn no_diagnostic() -> I2cDiagnostic {
-    I2cDiagnostic {
-        at: 0,
-        chip: ChipName::Ds3231,
-        kind: I2cDiagnosticKind::ReadOnly { register: 0 },
+// A report stands at the waiting count before it.
+fn posting(report: Report, counts: Diagnostics) -> Posting
+    ensures { λ r. ⌜ PostsReports (reportsOf report) counts r ⌝ }
+{
+    match report {
+        Report::None => Posting::none(),
+        Report::One(record) => Posting {
+            write: true,
+            slot: counts.waiting,
+            record,
+        },
     }
 }

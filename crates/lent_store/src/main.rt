@@ -15,7 +15,6 @@ use bus_by_value::take_short;
 use bus_by_value::write_on;
 use bus_by_value::write_short;
 use calendar::DateTime;
-use diagnostics::ChipName;
 use diagnostics::Diagnostics;
 use diagnostics::I2cDiagnostic;
 use diagnostics::I2cDiagnosticKind;
@@ -69,12 +68,11 @@ fn begun() -> Session {
     }
 }
 
+// A record that no report was written to, told apart by its instant.
 fn unwritten() -> I2cDiagnostic {
-    I2cDiagnostic {
-        at: NO_REPORT,
-        chip: ChipName::Ds3231,
-        kind: I2cDiagnosticKind::ReadOnly { register: 0 },
-    }
+    let mut record = I2cDiagnostic::unwritten();
+    record.at = NO_REPORT;
+    record
 }
 
 // Reports `from` to `to`: each is a pointer byte that names no register.

@@ -7,9 +7,7 @@ use bus_by_value::address_on;
 use bus_by_value::read_on;
 use bus_by_value::stop_on;
 use bus_by_value::write_on;
-use diagnostics::ChipName;
 use diagnostics::I2cDiagnostic;
-use diagnostics::I2cDiagnosticKind;
 use ds3231::Ds3231;
 use ds3231::Ds3231Config;
 use ds3231::Reply;
@@ -39,21 +37,12 @@ pub(crate) fn begun(config: Ds3231Config) -> Session {
 }
 
 fn with_store(chip: Ds3231) -> Session {
-    let any = any_diagnostic();
-    let store = [any; 256];
+    let unwritten = I2cDiagnostic::unwritten();
+    let store = [unwritten; 256];
     Session {
         chip,
         store,
         answer: BusAnswer::Replied(Reply::Done),
-    }
-}
-
-// What a record holds that no report was written to.
-pub(crate) fn any_diagnostic() -> I2cDiagnostic {
-    I2cDiagnostic {
-        at: 0,
-        chip: ChipName::Ds3231,
-        kind: I2cDiagnosticKind::ReadOnly { register: 0 },
     }
 }
 

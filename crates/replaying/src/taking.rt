@@ -1,5 +1,4 @@
 // Taking the diagnostics.
-use crate::chip::any_diagnostic;
 use crate::text;
 use bus_by_value::Emptied;
 use bus_by_value::Session;
@@ -9,8 +8,8 @@ use ds3231_bus::TakeAnswer;
 
 // Takes into 256 records and prints how many there are, and each on a line.
 pub(crate) fn taken(before: Session) -> Session {
-    let any = any_diagnostic();
-    let out = [any; 256];
+    let unwritten = I2cDiagnostic::unwritten();
+    let out = [unwritten; 256];
     let chip = before.chip;
     let store = before.store;
     let emptied = take_on(chip, store, out);

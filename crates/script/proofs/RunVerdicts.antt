@@ -22,7 +22,8 @@ use Rattle.ds3231.proofs.ExactTime.{power-on-sound}
 use Rattle.ds3231_chip.specs.Answers.{poweredChip, PoweredOn}
 use Rattle.ds3231_chip.specs.declared.PowerOn.{PowerOn}
 use Rattle.script.specs.Records.{recordsIn, checkedLength, faultNumbered, checkedFrom}
-use Rattle.script.specs.Runs.{Held, runNumbered, checkedRun, runVerdict, unwritten, clockrunHeld, Ran}
+use Rattle.diagnostics.specs.Reports.{unwritten}
+use Rattle.script.specs.Runs.{Held, runNumbered, checkedRun, runVerdict, clockrunHeld, Ran}
 use Rattle.script.specs.ByValue.{CheckedOnStores, RanOnStores}
 use Rattle.script.specs.declared.ScriptFault.{ScriptFault}
 use Rattle.script.specs.declared.ScriptFault.the-variants.{TooLong, NotWhole, Kind, Value, Padding, Falling}

@@ -2,9 +2,8 @@
 use Rattle.computed.specs.Prelude.{ℕ, zero, suc, _+_, _*_, _/_, _%_, false, not, List, [], _∷_, _++_, _≡_, eqb, length, replicate, pos, natAbs, if_then_else_}
 use Rattle.refusals.specs.Numbered.{Numbered, accepted, refused, andThen, unless}
 use Rattle.calendar.specs.Stated.{dateTime}
-use Rattle.diagnostics.specs.Reports.{report}
+use Rattle.diagnostics.specs.Reports.{unwritten}
 use Rattle.diagnostics.specs.declared.I2cDiagnostic.{I2cDiagnostic}
-use Rattle.diagnostics.specs.declared.I2cDiagnosticKind.the-variants.{ReadOnly}
 use Rattle.ds3231.specs.Calls.{sound, chipOn, Answered, replied, copied, bus, chipAfter, storeAfter, answer}
 use Rattle.ds3231.specs.declared.Ds3231.{Ds3231}
 use Rattle.ds3231.specs.declared.Event.{Event}
@@ -76,10 +75,6 @@ pub record Ran (h : Held) (s : List ℕ) (a : List ℕ) (r : RunAnswer) (c′ : 
   pub chip : c′ ≡ unless (runVerdict h s (length a)) (heldAt s h (recordsIn s) .chip) (h .chip)
   pub store : st′ ≡ unless (runVerdict h s (length a)) (heldAt s h (recordsIn s) .store) (h .store)
   pub bytes : a′ ≡ unless (runVerdict h s (length a)) (answersTo s h (recordsIn s)) a
-
--- what stands in the records of a store at power-on: it is left free, since none waits
-abbrev pub unwritten : I2cDiagnostic
-unwritten = report 0 (ReadOnly 0)
 
 -- 'Script answers': power-on at 2026-01-01T00:00:00, oscillator not stopped, 100 quarters
 abbrev pub clockrunHeld : Held

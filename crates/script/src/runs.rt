@@ -4,7 +4,7 @@ ghost use Prim.Native.Nat.{_≤_, _+_, _*_};
 ghost use lib.ListN.{length};
 ghost use Rattle.refusals.specs.Numbered.{accepted};
 ghost use Rattle.script.specs.Records.{checkedLength};
-ghost use Rattle.script.specs.Runs.{eventOf, replyByte, unwritten, clockrunHeld, runNumbered, checkedRun, runVerdict, Ran};
+ghost use Rattle.script.specs.Runs.{eventOf, replyByte, clockrunHeld, runNumbered, checkedRun, runVerdict, Ran};
 ghost use Rattle.script.specs.ByValue.{CheckedOnStores, RanOnStores, wholeOf};
 use crate::CheckAnswer;
 use crate::RECORD;
@@ -13,9 +13,7 @@ use crate::checks::check_length;
 use crate::checks::check_records;
 use crate::records;
 use calendar::DateTime;
-use diagnostics::ChipName;
 use diagnostics::I2cDiagnostic;
-use diagnostics::I2cDiagnosticKind;
 use diagnostics::MAX_DIAGNOSTICS;
 use ds3231::Ds3231;
 use ds3231::Ds3231Config;
@@ -63,20 +61,9 @@ pub fn run_from_power_on(script: &[u8], answers: &mut [u8]) -> RunOutcome
     };
     let powered = power_on(config);
     let chip = powered.chip;
-    let unwritten = unwritten();
+    let unwritten = I2cDiagnostic::unwritten();
     let records = [unwritten; 256];
     run_values(chip, records, script, answers)
-}
-
-// What stands in a record that no report was written to.
-fn unwritten() -> I2cDiagnostic
-    ensures { λ r. ⌜ r ≡ unwritten ⌝ }
-{
-    I2cDiagnostic {
-        at: 0,
-        chip: ChipName::Ds3231,
-        kind: I2cDiagnosticKind::ReadOnly { register: 0 },
-    }
 }
 
 // Runs a script on a lent chip and a lent store. The store's records are copied into a local array, and back.
@@ -90,7 +77,7 @@ pub fn run(
 {
     let c = *chip;
     let n = whole(store.len());
-    let mut records = [unwritten(); 256];
+    let mut records = [I2cDiagnostic::unwritten(); 256];
     let mut i = 0;
     while i < n {
         records[i] = store[i];

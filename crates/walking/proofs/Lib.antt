@@ -6,7 +6,12 @@ pub mod Local
 pub mod Walk
 pub mod One
 pub mod Extras
-pub mod Drive
+pub mod Lending
+pub mod Outcome
+pub mod Again
+pub mod Report
+pub mod Reporting
+pub mod ReportingNone
 pub mod Picks
 pub mod Face
 pub mod Session

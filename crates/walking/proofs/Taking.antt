@@ -1,5 +1,5 @@
 -- The walk of a function of a chip behind a `&mut`, a store of notes behind a `&[..]` and `out` behind a `&mut [..]`, which copies the chip out, calls a covered function f at the chip and the two lengths, stores the chip, and copies as many records as the outcome says, in a loop.
---     Takings, TakLaws     a struct of a chip, an answer and a count, as a row, and what the walk uses of it
+--     counting         the fields of f's outcome (`Outcome.antt`) behind chip and answer: a count
 --     code             the MIR of such a function, at the callee's name f, for records of any size
 --     Makings, Claims  a predicate of a chip, the two lengths and the outcome; a claim of the entry, the answer and the exit
 --     asks, does       the callee's contract, at a predicate Made, and the function's, at a claim Said
@@ -12,15 +12,10 @@ use Prim.Native.Nat.{_-_}
 use mathlib.Core.WellFounded.{InvImage·wf}
 use lib.WfN.{Nat·lt-wfRel}
 use lib.Dec.{ltb, ltb→lt, nltb→le}
-use mir.Syntax.{Sym, Ty, Written, Name, Fn, Body, tyBool, tyStruct, tnil, tcons, local, valueLocal, imm, mut, unsigned, tyInt, tyRef, deref, field, place, copy, int, skip, exit, seq, assign, block, loop, cond, return, call, rvOpd, op2, mul, add, lt, offset}
-use mir.Val.{vstruct, vnil, vcons}
-use base.Stored.{Coded}
-use base.Fml.{Fml}
+use mir.Syntax.{Name, Fn, Body, tyBool, local, valueLocal, imm, mut, unsigned, tyInt, tyRef, deref, field, place, copy, int, skip, exit, seq, assign, block, loop, cond, return, call, rvOpd, op2, mul, add, lt, offset}
 use prog.Memory.{size}
 use prog.Wp.{Wp, Out, afterSeq, afterBlock, afterTurn, atReturn}
-use denote.Exit.{Kept, Exit}
 use denote.RattleType.{RattleType}
-use denote.Laws.{Tells, Makes, Lawful, Copy}
 use denote.Memory.{pointee}
 use denote.Ref.{now}
 use denote.Slice.{sliceTy}
@@ -29,50 +24,22 @@ use denote.Index.{place as place-of, place-is}
 use denote.Triple.Clauses.{Ended, Clauses, closing}
 use Rattle.walking.proofs.Data.{Data}
 use Rattle.walking.proofs.One.{One, row}
+use Rattle.walking.proofs.Extras.{Extra, number}
+use Rattle.walking.proofs.Outcome.{Outcomes, OutLaws, out-ty, out-row, out-val, out-data}
 use Rattle.walking.proofs.Copied.{Copied, copied-len, copied-next, element-fits, holds, fails, decide}
 
-pub record Takings (chip answer : One) : Type 2 where
-  pub Denot : Type 0
-  pub name : Sym
-  pub written : Written
-  pub reaches : List (Written × List Ty)
-  pub own : Denot → List Val → Fml
-  pub exit : Kept → Exit Denot
-  pub coded : Coded Denot
-  pub chip-in : Denot → chip .Denot
-  pub answer-in : Denot → answer .Denot
-  pub count-in : Denot → ℕ
-
-module _ (chip answer : One) (taking : Takings chip answer) where
-  abbrev pub tak-ty : Ty
-  tak-ty = tyStruct (taking .name) (tcons (chip .ty) (tcons (answer .ty) (tcons (tyInt w64) tnil)))
-
-  abbrev pub tak-row : RattleType
-  tak-row = record { Denot = taking .Denot; mir = tak-ty ∷ []; written = taking .written; reaches = taking .reaches; own = taking .own; exit = taking .exit; coded = taking .coded }
-
-  module _ (dc : Data (row chip)) (da : Data (row answer)) where
-    abbrev pub tak-val : taking .Denot → Val
-    tak-val r = vstruct (vcons (dc .val (taking .chip-in r)) (vcons (da .val (taking .answer-in r)) (vcons (vint w64 (taking .count-in r)) vnil)))
-
-    pub record TakLaws : Type 2 where
-      pub tells : Tells tak-row (Is tak-row) (λ r. tak-val r ∷ [])
-      pub lawful : {M : Type 1} (𝓤 : URA M) (H : Heap 𝓤) (A : Atoms 𝓤) → Given 𝓤 H A → Lawful 𝓤 H A tak-row
-      pub makes : {M : Type 1} (𝓤 : URA M) (H : Heap 𝓤) (A : Atoms 𝓤) → Given 𝓤 H A → Makes 𝓤 H A tak-row (Is tak-row)
-      pub copy : {M : Type 1} (𝓤 : URA M) (H : Heap 𝓤) (A : Atoms 𝓤) → Given 𝓤 H A → Copy 𝓤 H A tak-row
-      pub chip-is : (r : taking .Denot) → Is tak-row r (tak-val r ∷ []) → Is (row chip) (taking .chip-in r) (dc .val (taking .chip-in r) ∷ [])
-      pub answer-is : (r : taking .Denot) → Is tak-row r (tak-val r ∷ []) → Is (row answer) (taking .answer-in r) (da .val (taking .answer-in r) ∷ [])
-
-    abbrev pub tak-data : TakLaws → Data tak-row
-    tak-data lo = record { val = tak-val; tells = lo .tells; lawful = lo .lawful; makes = lo .makes; copy = lo .copy }
+-- the fields behind chip and answer: how many notes are copied
+abbrev pub counting : List Extra
+counting = number w64 ∷ []
 
 -- ---- the contracts
-module _ (chip answer : One) (taking : Takings chip answer) where
+module _ (chip answer : One) (taking : Outcomes chip answer counting) where
   -- what the covered function says of a chip, the two lengths and the outcome
   abbrev pub Makings : Type 1
   Makings = chip .Denot → ℕ → ℕ → taking .Denot → Type 0
 
   abbrev pub callee-ended : Ended
-  callee-ended = record { signature = record { lifetimes = 0; outlives = []; params = plain (λ _. row chip) ∷ plain (λ _. usize) ∷ plain (λ _. usize) ∷ []; result = plain (λ _. tak-row chip answer taking) }; kept = (yes, (yes, (yes, tt))) }
+  callee-ended = record { signature = record { lifetimes = 0; outlives = []; params = plain (λ _. row chip) ∷ plain (λ _. usize) ∷ plain (λ _. usize) ∷ []; result = plain (λ _. out-row chip answer counting taking) }; kept = (yes, (yes, (yes, tt))) }
 
   abbrev pub asks : {M : Type 1} (𝓤 : URA M) → Makings → Clauses 𝓤 callee-ended
   asks 𝓤 Made κs a = record { ghost = Unit {0}; requires = λ _. emp 𝓤; ensures = λ _ r e. fact 𝓤 (Made (a .0) (a .1 .0) (a .1 .1 .0) r) }
@@ -91,14 +58,14 @@ module _ (chip answer note : One) where
   abbrev pub does : {M : Type 1} (𝓤 : URA M) → Claims → Clauses 𝓤 self-ended
   does 𝓤 Said κs a = record { ghost = Unit {0}; requires = λ _. emp 𝓤; ensures = λ _ r e. fact 𝓤 (Said (now (a .0)) (now (a .1 .0)) (now (a .1 .1 .0)) r (now (e .0)) (now (e .1 .0)) (now (e .1 .1 .0))) }
 
-module _ (chip answer note : One) (taking : Takings chip answer) (dc : Data (row chip)) (da : Data (row answer)) (dn : Data (row note)) (lo : TakLaws chip answer taking dc da) (d₀ : note .Denot) (bytes : ℕ) (bytes-lit : T (ltb bytes (2 ^ 64))) (sz : bytes ≡ size (note .ty)) where
+module _ (chip answer note : One) (taking : Outcomes chip answer counting) (dc : Data (row chip)) (da : Data (row answer)) (dn : Data (row note)) (lo : OutLaws chip answer counting taking dc da) (d₀ : note .Denot) (bytes : ℕ) (bytes-lit : T (ltb bytes (2 ^ 64))) (sz : bytes ≡ size (note .ty)) where
   abbrev pub code : Name → Fn
   code f = record {
     lifetimes = 3;
     outlives = [];
     params = 3;
     locals = local (answer .ty) valueLocal ∷ local (tyRef (named 0) mut (pointee (chip .written))) valueLocal ∷ local (sliceTy (tyRef (named 1) imm (pointee (note .written)))) valueLocal ∷ local (sliceTy (tyRef (named 2) mut (pointee (note .written)))) valueLocal
-        ∷ local (chip .ty) valueLocal ∷ local (tak-ty chip answer taking) valueLocal ∷ local (tyInt w64) valueLocal ∷ local (tyInt w64) valueLocal ∷ local (tyInt w64) valueLocal ∷ local (tyInt w64) valueLocal ∷ local tyBool valueLocal
+        ∷ local (chip .ty) valueLocal ∷ local (out-ty chip answer counting taking) valueLocal ∷ local (tyInt w64) valueLocal ∷ local (tyInt w64) valueLocal ∷ local (tyInt w64) valueLocal ∷ local (tyInt w64) valueLocal ∷ local tyBool valueLocal
         ∷ local (tyInt w64) valueLocal ∷ local tyPtr valueLocal ∷ local (note .ty) valueLocal ∷ local (tyInt w64) valueLocal ∷ local tyPtr valueLocal ∷ [];
     body = seq (assign (place 4 []) (rvOpd (copy (place 1 (deref (chip .ty) ∷ [])))))
         (seq (assign (place 8 []) (rvOpd (copy (place 2 (field 1 ∷ [])))))
@@ -141,8 +108,8 @@ module _ (chip answer note : One) (taking : Takings chip answer) (dc : Data (row
   abbrev last : Name → Body
   last f = rest (looping f)
 
-  module _ {M : Type 1} (𝓤 : URA M) (H : Heap 𝓤) (A : Atoms 𝓤) (W : Given 𝓤 H A) (f : Name) (Made : Makings chip answer taking) (Said : Claims chip answer note) (count-within : (c : chip .Denot) (len room : ℕ) (r : taking .Denot) → Made c len room r → (taking .count-in r ≤ len) × (taking .count-in r ≤ room))
-      (shows : (h : chip .Denot) (xs zs : List (note .Denot)) (r : taking .Denot) → Made h (length xs) (length zs) r → Said h xs zs (taking .answer-in r) (taking .chip-in r) xs (Copied xs zs (taking .count-in r)))
+  module _ {M : Type 1} (𝓤 : URA M) (H : Heap 𝓤) (A : Atoms 𝓤) (W : Given 𝓤 H A) (f : Name) (Made : Makings chip answer taking) (Said : Claims chip answer note) (count-within : (c : chip .Denot) (len room : ℕ) (r : taking .Denot) → Made c len room r → (taking .fields-in r .0 ≤ len) × (taking .fields-in r .0 ≤ room))
+      (shows : (h : chip .Denot) (xs zs : List (note .Denot)) (r : taking .Denot) → Made h (length xs) (length zs) r → Said h xs zs (taking .answer-in r) (taking .chip-in r) xs (Copied xs zs (taking .fields-in r .0)))
       (κ κ′ κ″ : Lft) (q q′ q″ : Share) (ba oa : ℕ) (γ : GName) (h : chip .Denot) (b o : ℕ) (γ′ : GName) (xs : List (note .Denot)) (b′ o′ : ℕ) (γ″ : GName) (zs : List (note .Denot)) (room : Room (row note) (length xs)) (room′ : Room (row note) (length zs)) where
     abbrev x : Arg
     x = (at-ref ba oa γ h, (at-ref b o γ′ xs, (at-ref b′ o′ γ″ zs, tt)))
@@ -160,18 +127,18 @@ module _ (chip answer note : One) (taking : Takings chip answer) (dc : Data (row
     Post = walkOf 𝓤 H A Self stayed (does chip answer note 𝓤 Said) .post (((κ, (κ′, (κ″, tt))), (q, (q′, (q″, tt))), tt, x, vs), tt)
 
     abbrev R : RattleType
-    R = tak-row chip answer taking
+    R = out-row chip answer counting taking
 
     -- the outcome of the covered function
     module _ (out : taking .Denot) (made : Made h (length xs) (length zs) out) where
-      within : (taking .count-in out ≤ length xs) × (taking .count-in out ≤ length zs)
+      within : (taking .fields-in out .0 ≤ length xs) × (taking .fields-in out .0 ≤ length zs)
       within = count-within h (length xs) (length zs) out made
 
       abbrev n : ℕ
-      n = taking .count-in out
+      n = taking .fields-in out .0
 
       abbrev mach : Val
-      mach = tak-val chip answer taking dc da out
+      mach = out-val chip answer counting taking dc da out
 
       -- the borrows, after i turns
       abbrev Ends : ℕ → List (Item 𝓤)
@@ -208,9 +175,9 @@ module _ (chip answer note : One) (taking : Takings chip answer) (dc : Data (row
 
         ends : (i : ℕ) → i ≡ n → Sq W (framed 𝓤 ((code f) .locals) bs (held void i (has (vbool false) ∷ [])) (Ends i)) (runs (𝓣 .C) (𝓣 .Λ) En (last f) (atRet En Post))
         ends i e =
-            assigns ! (of-opd ! (load ! (from ! (fld ! refl (stop !))) (look-in ! 20 (sub ! 1 refl (whole !))))) (from ! (stop !)) (init ! 30 refl (da .lawful 𝓤 H A W .typed (taking .answer-in out) _ (lo .answer-is out is-r) .0)) $ returns ! (look ! 30 refl) $
+            assigns ! (of-opd ! (load ! (from ! (fld ! refl (stop !))) (look-in ! 20 (sub ! 1 refl (whole !))))) (from ! (stop !)) (init ! 30 refl (da .lawful 𝓤 H A W .typed (taking .answer-in out) _ (lo .parts out is-r .1 .0) .0)) $ returns ! (look ! 30 refl) $
             leaves ! ((code f) .locals) bs (held (has (da .val (taking .answer-in out))) i (has (vbool false) ∷ [])) tt $
-            rewrite ! 4 (λ (k : ℕ). ‵ (SliceOwn κ″ (row note) b′ o′ γ″ (length zs) (Copied xs zs k))) e refl $ by ! (exits (lo .answer-is out is-r))
+            rewrite ! 4 (λ (k : ℕ). ‵ (SliceOwn κ″ (row note) b′ o′ γ″ (length zs) (Copied xs zs k))) e refl $ by ! (exits (lo .parts out is-r .1 .0))
 
         turn : (z : X) → Sq W (I z) (runs (𝓣 .C) (𝓣 .Λ) En (once f) (anyQ (afterTurn 𝓤 H (Below 𝓤 H A Less I z) Left)))
         unfolding afterTurn
@@ -275,20 +242,20 @@ module _ (chip answer note : One) (taking : Takings chip answer) (dc : Data (row
           assigns ! (of-opd ! (load ! (from ! (hop ! (look ! 28 refl) (stop !))) (look-raw ! 36 refl))) (from ! (stop !)) (init ! 22 refl (dc .lawful 𝓤 H A W .typed h _ is .0)) $
           assigns ! (of-opd ! (load ! (from ! (fld ! refl (stop !))) (look-in ! 26 (sub ! 1 refl (whole !))))) (from ! (stop !)) (init ! 14 refl (tt, record { fits = room .0 })) $
           assigns ! (of-opd ! (load ! (from ! (fld ! refl (stop !))) (look-in ! 24 (sub ! 1 refl (whole !))))) (from ! (stop !)) (init ! 12 refl (tt, record { fits = room′ .0 })) $
-          calls-data ! fm Callee (asks chip answer taking 𝓤 Made) known to-callee (tak-data chip answer taking dc da lo) (id⊢ 𝓤 (emp 𝓤)) (owned-args is) (id⊢ 𝓤 (emp 𝓤)) (Made h (length xs) (length zs)) (λ r ws. id⊢ 𝓤 _)
+          calls-data ! fm Callee (asks chip answer taking 𝓤 Made) known to-callee (out-data chip answer counting taking dc da lo) (id⊢ 𝓤 (emp 𝓤)) (owned-args is) (id⊢ 𝓤 (emp 𝓤)) (Made h (length xs) (length zs)) (λ r ws. id⊢ 𝓤 _)
           (and-then ! (load ! (from ! (stop !)) (look ! 23 refl)) (and-then ! (load ! (from ! (stop !)) (look ! 15 refl)) (and-then ! (load ! (from ! (stop !)) (look ! 13 refl)) (no-more !)))) (λ out is-r made.
-          let n-fits : taking .count-in out < 2 ^ 64 = omega (arith, within out made .0, room .0) in
-          land ! (from ! (stop !)) (init ! 20 refl ((tak-data chip answer taking dc da lo) .lawful 𝓤 H A W .typed out _ is-r .0)) $
-          assigns ! (of-opd ! (load ! (from ! (fld ! refl (stop !))) (look-in ! 20 (sub ! 0 refl (whole !))))) (from ! (hop ! (look ! 28 refl) (stop !))) (store-raw ! 36 refl (dc .lawful 𝓤 H A W .typed (taking .chip-in out) _ (lo .chip-is out is-r) .0)) $
-          move ! (36 ∷ 37 ∷ 38 ∷ 39 ∷ []) $ ref-shut ! tt (row chip) dc h (taking .chip-in out) ba oa (lo .chip-is out is-r) $ back ! 2 $
+          let n-fits : taking .fields-in out .0 < 2 ^ 64 = omega (arith, within out made .0, room .0) in
+          land ! (from ! (stop !)) (init ! 20 refl ((out-data chip answer counting taking dc da lo) .lawful 𝓤 H A W .typed out _ is-r .0)) $
+          assigns ! (of-opd ! (load ! (from ! (fld ! refl (stop !))) (look-in ! 20 (sub ! 0 refl (whole !))))) (from ! (hop ! (look ! 28 refl) (stop !))) (store-raw ! 36 refl (dc .lawful 𝓤 H A W .typed (taking .chip-in out) _ (lo .parts out is-r .0) .0)) $
+          move ! (36 ∷ 37 ∷ 38 ∷ 39 ∷ []) $ ref-shut ! tt (row chip) dc h (taking .chip-in out) ba oa (lo .parts out is-r .0) $ back ! 2 $
           -- [.. the store; its token; `out`; its token; the chip; its token], put in their order
           move ! (32 ∷ 33 ∷ 34 ∷ 35 ∷ []) $ back ! 4 $
           assigns ! (of-opd ! (load ! (from ! (fld ! refl (stop !))) (look-in ! 20 (sub ! 2 refl (whole !))))) (from ! (stop !)) (init ! 18 refl (tt, record { fits = n-fits })) $
           assigns ! (of-opd ! (lit ! tt)) (from ! (stop !)) (init ! 16 refl (tt, record { fits = lit< tt })) $
-          first ! $ blocks ! $ loops ! 𝓣 (Less out made 𝓣 bs is-r) (InvImage·wf (λ (z : X out made 𝓣 bs is-r). taking .count-in out - z .0) (Nat·lt-wfRel .wf)) (I out made 𝓣 bs is-r) (turn out made 𝓣 bs is-r) (0, omega arith))))
+          first ! $ blocks ! $ loops ! 𝓣 (Less out made 𝓣 bs is-r) (InvImage·wf (λ (z : X out made 𝓣 bs is-r). taking .fields-in out .0 - z .0) (Nat·lt-wfRel .wf)) (I out made 𝓣 bs is-r) (turn out made 𝓣 bs is-r) (0, omega arith))))
 
-  pub takes : {M : Type 1} (𝓤 : URA M) (H : Heap 𝓤) (A : Atoms 𝓤) → Given 𝓤 H A → (f : Name) (Made : Makings chip answer taking) (Said : Claims chip answer note) → ((c : chip .Denot) (len room : ℕ) (r : taking .Denot) → Made c len room r → (taking .count-in r ≤ len) × (taking .count-in r ≤ room))
-      → ((h : chip .Denot) (xs zs : List (note .Denot)) (r : taking .Denot) → Made h (length xs) (length zs) r → Said h xs zs (taking .answer-in r) (taking .chip-in r) xs (Copied xs zs (taking .count-in r)))
+  pub takes : {M : Type 1} (𝓤 : URA M) (H : Heap 𝓤) (A : Atoms 𝓤) → Given 𝓤 H A → (f : Name) (Made : Makings chip answer taking) (Said : Claims chip answer note) → ((c : chip .Denot) (len room : ℕ) (r : taking .Denot) → Made c len room r → (taking .fields-in r .0 ≤ len) × (taking .fields-in r .0 ≤ room))
+      → ((h : chip .Denot) (xs zs : List (note .Denot)) (r : taking .Denot) → Made h (length xs) (length zs) r → Said h xs zs (taking .answer-in r) (taking .chip-in r) xs (Copied xs zs (taking .fields-in r .0)))
       → (𝓣 : Tables 𝓤 H) → Triple 𝓤 (𝓣 .C f) (Asked 𝓤 H A Callee (asks chip answer taking 𝓤 Made)) → Meets 𝓤 H A (Self .signature) (WpFn 𝓤 H (𝓣 .C) (𝓣 .Λ) (code f)) (closing 𝓤 H A Self (does chip answer note 𝓤 Said))
   takes 𝓤 H A W f Made Said count-within shows 𝓣 known =
       walk-meets 𝓤 H A Self stayed W (goes-ref 𝓤 H A W 3 0 tt (plain (λ _. row chip)), (goes-none-slice 𝓤 H A W 3 (1 ∷ []) tt (plain (λ _. row note)) yes, (goes-slice 𝓤 H A W 3 2 tt (plain (λ _. row note)), tt))) (does chip answer note 𝓤 Said)

@@ -1,13 +1,19 @@
 -- The calls on a chip behind a `&mut` and a store of notes behind a `&mut [..]`, with any list of further parameters of plain data: their contract, and what every walk of one shares. Such a call copies the chip out, asks a covered function f at the chip, the store's length and the further parameters, and stores the chip that f makes.
 --     Claims, self-ended, does     the call's contract: what it says (Said) of chip, store and the values of the further parameters, as a tuple, and of answer, chip and store at exit
 --     Makings, callee-ended, asks      f's contract: what it makes (Made) of chip, the store's length and the further values
+--     before, no, En, spot, extra-spots    the call's locals and where they stand
 --     to-callee, owned-args    f is called: its ghost, and what it is passed is owned for nothing
 --     Ends, exits      the borrows at exit are the call's postcondition, where what it says holds
 --     lends            a walk of the call's code from its entry shows that it meets its contract
 -- The types are variables (`One.antt`), and so is the list (`Extras.antt`), so what a walk costs does not depend on them. It says nothing of any crate.
 -- Assumes nothing.
-use Rattle.walking.proofs.Walk.{_≡_, refl, ℕ, [], _∷_, List, length, URA, named, w64, Val, vint, vptr, SProp, ent, emp, via, fst∗, GName, Lft, Share, flft, Heap, Calls, Loops, WpFn, Tables, Atoms, sem, fact, Given, Item, ‵, ⋆, _$_, _∵_, !, qed, move, use0, group, fjoin, suffices, frame, done, WpFn-mono, owns, Is, Ises, owns-make, uint-makes, RefT, ptr-vals, mut-tells, sliceVal, Room, slice-vals, mut-slice-tells, usize, plain, owned, nothing, onEntry, Meets, says, Stays, stay-ref, stay-slice, walkOf, goes-ref, goes-slice, ends-at, walked, walk-meets, yes, Asked, at-ref, RefOwn, SliceOwn}
-use mir.Syntax.{Fn}
+use Rattle.walking.proofs.Walk.{_≡_, refl, ℕ, [], _∷_, List, length, URA, named, w64, Val, vint, vptr, SProp, ent, emp, via, fst∗, GName, Lft, Share, flft, Heap, Env, WpFn, Tables, Atoms, sem, fact, Given, Item, ‵, ⋆, _$_, _∵_, !, qed, move, use0, group, fjoin, suffices, frame, done, WpFn-mono, owns, Is, Ises, owns-make, uint-makes, RefT, ptr-vals, mut-tells, sliceVal, Room, slice-vals, mut-slice-tells, usize, plain, owned, nothing, onEntry, Meets, says, Stays, stay-ref, stay-slice, walkOf, goes-ref, goes-slice, ends-at, walked, walk-meets, yes, Asked, at-ref, RefOwn, SliceOwn, Locs, envAt}
+use Prim.Native.Nat.{suc}
+use mathlib.Core.List.{_++_}
+use mir.Syntax.{Fn, Local, local, valueLocal, mut, tyRef}
+use prog.Wp.{spotOf}
+use denote.Memory.{pointee}
+use denote.Slice.{sliceTy}
 use contract.Lifetimes.{Lfts}
 use denote.RattleType.{RattleType, Denots, Valss, flat}
 use denote.Ref.{now}
@@ -17,7 +23,7 @@ use denote.Triple.Clauses.{Ended, Clauses, closing}
 use denote.Triple.Walked.{hasOf}
 use Rattle.walking.proofs.Data.{Data}
 use Rattle.walking.proofs.One.{One, row}
-use Rattle.walking.proofs.Extras.{Extra, slots, kepts, stays, goes, rows, spells, tells, words, Known, known, made, Values, values, lasts, fits, had}
+use Rattle.walking.proofs.Extras.{Extra, slots, kepts, stays, goes, rows, spells, tells, words, Known, known, made, Values, values, lasts, fits, had, locals, later, past, Spots, spots, spots-next}
 
 module _ (chip answer note : One) (es : List Extra) where
   -- what the call says of a chip, a store and the further values, of its answer, and of the chip and the store at exit
@@ -46,6 +52,24 @@ module _ (chip answer note : One) (es : List Extra) where
 
     abbrev pub asks : {M : Type 1} (𝓤 : URA M) → Makings → Clauses 𝓤 callee-ended
     asks 𝓤 Made κs a = record { ghost = Unit {0}; requires = λ _. emp 𝓤; ensures = λ _ r e. fact 𝓤 (Made (a .0) (a .1 .0) (a .1 .1) r) }
+
+  -- ---- the call's locals: result, chip and store, the further parameters, and those that `after` lists
+  abbrev pub before : List Local
+  before = local (answer .ty) valueLocal ∷ local (tyRef (named 0) mut (pointee (chip .written))) valueLocal ∷ local (sliceTy (tyRef (named 1) mut (pointee (note .written)))) valueLocal ∷ []
+
+  -- the number of local j of `after`
+  abbrev pub no : ℕ → ℕ
+  no j = suc (suc (suc (later es j)))
+
+  module _ {M : Type 1} (𝓤 : URA M) (H : Heap 𝓤) (after : List Local) (bs : Locs before) (bx : Locs (locals es)) (bs′ : Locs after) where
+    abbrev pub En : Env 𝓤 H
+    En = envAt 𝓤 H before bs ++ (envAt 𝓤 H (locals es) bx ++ envAt 𝓤 H after bs′)
+
+    pub spot : (j : ℕ) → spotOf 𝓤 H En (no j) ≡ spotOf 𝓤 H (envAt 𝓤 H after bs′) j
+    spot j = past 𝓤 H es bx (envAt 𝓤 H after bs′) j
+
+    pub extra-spots : Spots 𝓤 H En 3 es bx
+    extra-spots = spots-next 𝓤 H _ _ 2 es bx (spots-next 𝓤 H _ _ 1 es bx (spots-next 𝓤 H _ _ 0 es bx (spots 𝓤 H es bx (envAt 𝓤 H after bs′))))
 
   -- a call: the lifetimes, the shares of their tokens, where chip and store stand, what they hold, and the further values
   pub record Call : Type 0 where

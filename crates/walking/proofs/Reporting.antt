@@ -5,7 +5,6 @@
 -- The locals stay at the head of the context. Those after the further parameters', local j of 6 at 2 · (5 − j); what the further parameters hold, at 12; the store's, the chip's and the result's, at 13, 15 and 17. The borrows stand behind them, from 19 on.
 -- Assumes nothing.
 use Rattle.walking.proofs.Walk.{_≡_, refl, ℕ, [], _∷_, List, length, URA, named, w64, Val, vint, vptr, SProp, ent, emp, id⊢, ftrue, flft, Heap, Env, Calls, Loops, WpFn, Tables, Atoms, Given, ‵, _⊛_, Sq, runs, atRet, _$_, _∵_, !, qed, by, move, keep, split3, fsplit, look, look-raw, store-raw, init, forget, stop, hop, fld, from, load, of-opd, and-then, assigns, land, returns, params1, pass1, whole, sub, look-in, FmC, fmOf, owns, Is, MutRef, MutSlice, Triple, Meets, Asked, calls-data, ref-open, ref-shut, void, has, Locs, envAt, framed, back, sink, rest, addr, agg, no-more}
-use Prim.Native.Nat.{suc}
 use mathlib.Core.List.{_++_}
 use mir.Syntax.{Name, Fn, Local, local, valueLocal, mut, tyInt, tyRef, deref, field, place, copy, seq, assign, return, call, rvOpd, erased, tyUnit, addrOf, aggregate}
 use mir.Val.{vunit}
@@ -20,7 +19,7 @@ use Rattle.walking.proofs.One.{One, row}
 use Rattle.walking.proofs.Outcome.{Outcomes, OutLaws, out-ty, out-row, out-data}
 use Rattle.walking.proofs.Lending as L
 use Rattle.walking.proofs.Report.{Does, report-ended, reports, calls-report}
-use Rattle.walking.proofs.Extras.{Extra, rows, Values, locals, holds, later, copies, past, Spots, spots, spots-next, at, enters-with, passes-all, reads-all, frees-all}
+use Rattle.walking.proofs.Extras.{Extra, rows, Values, locals, holds, later, copies, at, enters-with, passes-all, reads-all, frees-all}
 
 module _ (chip answer note : One) (post : Extra) (es : List Extra) (out : Outcomes chip answer (post ∷ [])) where
   abbrev R : RattleType
@@ -29,22 +28,18 @@ module _ (chip answer note : One) (post : Extra) (es : List Extra) (out : Outcom
   pub record Shown (Made : L.Makings chip answer note es R) (Did : Does note (post .one)) (Said : L.Claims chip answer note es) : Type 1 where
     pub shows : (c : chip .Denot) (xs : Values es) (r : out .Denot) (ys zs : List (note .Denot)) → Made c (length ys) xs r → Did (out .fields-in r .0) ys zs → Said c ys xs (out .answer-in r) (out .chip-in r) zs
 
-  abbrev before : List Local
-  before = local (answer .ty) valueLocal ∷ local (tyRef (named 0) mut (pointee (chip .written))) valueLocal ∷ local (sliceTy (tyRef (named 1) mut (pointee (note .written)))) valueLocal ∷ []
-
   abbrev after : List Local
   after = local (chip .ty) valueLocal ∷ local (out-ty chip answer (post ∷ []) out) valueLocal ∷ local (tyInt w64) valueLocal ∷ local tyUnit valueLocal ∷ local (tyRef erased mut (pointee (note .written))) valueLocal ∷ local (sliceTy (tyRef erased mut (pointee (note .written)))) valueLocal ∷ []
 
-  -- the number of local j of `after`
   abbrev no : ℕ → ℕ
-  no j = suc (suc (suc (later es j)))
+  no = L.no chip answer note es
 
   abbrev pub code : Name → Name → Fn
   code f g = record {
     lifetimes = 2;
     outlives = [];
     params = later es 2;
-    locals = before ++ (locals es ++ after);
+    locals = L.before chip answer note es ++ (locals es ++ after);
     body = seq (assign (place (no 0) []) (rvOpd (copy (place 1 (deref (chip .ty) ∷ [])))))
         (seq (assign (place (no 2) []) (rvOpd (copy (place 2 (field 1 ∷ [])))))
         (seq (call f (copy (place (no 0) []) ∷ copy (place (no 2) []) ∷ copies 3 es) (place (no 1) []))
@@ -70,16 +65,15 @@ module _ (chip answer note : One) (post : Extra) (es : List Extra) (out : Outcom
       abbrev Post : Val → SProp 𝓤
       Post = L.Post chip answer note es dc da 𝓤 H A k Said
 
+      abbrev before : List Local
+      before = L.before chip answer note es
+
       module _ (bs : Locs before) (bx : Locs (locals es)) (bs′ : Locs after) where
         abbrev En : Env 𝓤 H
-        En = envAt 𝓤 H before bs ++ (envAt 𝓤 H (locals es) bx ++ envAt 𝓤 H after bs′)
+        En = L.En chip answer note es 𝓤 H after bs bx bs′
 
         spot : (j : ℕ) → spotOf 𝓤 H En (no j) ≡ spotOf 𝓤 H (envAt 𝓤 H after bs′) j
-        spot j = past 𝓤 H es bx (envAt 𝓤 H after bs′) j
-
-        extra-spots : Spots 𝓤 H En 3 es bx
-        extra-spots =
-            spots-next 𝓤 H _ _ 2 es bx (spots-next 𝓤 H _ _ 1 es bx (spots-next 𝓤 H _ _ 0 es bx (spots 𝓤 H es bx (envAt 𝓤 H after bs′))))
+        spot = L.spot chip answer note es 𝓤 H after bs bx bs′
 
         -- the answer is returned, and the locals are freed in their order
         ends : (r : out .Denot) (zs : List (note .Denot)) → Said (k .h) (k .ys) xs (out .answer-in r) (out .chip-in r) zs → length zs ≡ length (k .ys) → Is (row answer) (out .answer-in r) (da .val (out .answer-in r) ∷ [])
@@ -103,7 +97,7 @@ module _ (chip answer note : One) (post : Extra) (es : List Extra) (out : Outcom
           assigns ! (of-opd ! (load ! (from ! (hop ! (look ! 15 refl) (stop !))) (look-raw ! 21 refl))) (at ! (spot bs bx bs′ 0) (stop !)) (init ! 10 refl (dc .lawful 𝓤 H A W .typed (k .h) _ is .0)) $
           assigns ! (of-opd ! (load ! (from ! (fld ! refl (stop !))) (look-in ! 13 (sub ! 1 refl (whole !))))) (at ! (spot bs bx bs′ 2) (stop !)) (init ! 6 refl (tt, record { fits = k .room .0 })) $
           calls-data ! fm (L.callee-ended chip answer note es R) (L.asks chip answer note es R 𝓤 Made) met (L.to-callee chip answer note es dc da 𝓤 H A k R Made) od (id⊢ 𝓤 (emp 𝓤)) (L.owned-args chip answer note es dc da 𝓤 H A k R Made W is) (id⊢ 𝓤 (emp 𝓤)) (Made (k .h) (length (k .ys)) xs) (λ r ws. id⊢ 𝓤 _)
-          (and-then ! (load ! (at ! (spot bs bx bs′ 0) (stop !)) (look ! 11 refl)) (and-then ! (load ! (at ! (spot bs bx bs′ 2) (stop !)) (look ! 7 refl)) (reads-all ! 13 3 es bx xs refl (extra-spots bs bx bs′)))) (λ r is-r m.
+          (and-then ! (load ! (at ! (spot bs bx bs′ 0) (stop !)) (look ! 11 refl)) (and-then ! (load ! (at ! (spot bs bx bs′ 2) (stop !)) (look ! 7 refl)) (reads-all ! 13 3 es bx xs refl (L.extra-spots chip answer note es 𝓤 H after bs bx bs′)))) (λ r is-r m.
           land ! (at ! (spot bs bx bs′ 1) (stop !)) (init ! 8 refl (od .lawful 𝓤 H A W .typed r _ is-r .0)) $
           assigns ! (of-opd ! (load ! (at ! (spot bs bx bs′ 1) (fld ! refl (stop !))) (look-in ! 8 (sub ! 0 refl (whole !))))) (from ! (hop ! (look ! 15 refl) (stop !))) (store-raw ! 21 refl (dc .lawful 𝓤 H A W .typed (out .chip-in r) _ (lo .parts r is-r .0) .0)) $
           move ! (21 ∷ 22 ∷ 23 ∷ 24 ∷ []) $ ref-shut ! tt (row chip) dc (k .h) (out .chip-in r) (k .ba) (k .oa) (lo .parts r is-r .0) $ back ! 2 $

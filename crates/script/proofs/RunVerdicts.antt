@@ -70,6 +70,9 @@ answer-leaves StoreLength n after before = refl
 answer-leaves AnswersLength n after before = refl
 answer-leaves (Script f) n after before = fault-refuses (λ v. before ≡ unless v after before) (λ m vs. refl) f
 
+pub not-accepted : (v : RunAnswer) → (v ≡ Done → ⊥) → runNumbered v ≡ accepted tt → ⊥
+not-accepted v n e = let z : _≡_ {A = ℕ} 1 0 = answer-leaves v n 0 1 ∙ ap (λ (w : Numbered (Unit {0})). unless w 0 1) e in omega arith
+
 -- ---- a run that goes through, and one that is refused
 
 module _ (c : Ds3231) (len : ℕ) (s : List ℕ) (room : ℕ) (v : RunAnswer) (f : CheckedOnStores c len s room v) (d : v ≡ Done) where

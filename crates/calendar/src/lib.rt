@@ -22,14 +22,14 @@ const SECONDS_PER_MINUTE: u64 = 60;
 
 const SECONDS_PER_HOUR: u64 = 3_600;
 
-const SECONDS_PER_DAY: u64 = 86_400;
+pub const SECONDS_PER_DAY: u64 = 86_400;
 
-const DAYS_PER_WEEK: u64 = 7;
+pub const DAYS_PER_WEEK: u64 = 7;
 
 // The days from 2000-01-01 to 2200-01-01.
 const DAYS_IN_RANGE: u64 = 73_049;
 
-const SECONDS_IN_RANGE: u64 = DAYS_IN_RANGE * SECONDS_PER_DAY;
+pub const SECONDS_IN_RANGE: u64 = DAYS_IN_RANGE * SECONDS_PER_DAY;
 
 // The days from 0000-03-01 to 2000-01-01, the origin of the formulas below (Howard Hinnant's `days_from_civil`).
 const DAYS_TO_2000: u64 = 730_425;
@@ -37,7 +37,7 @@ const DAYS_TO_2000: u64 = 730_425;
 const DAYS_PER_400_YEARS: u64 = 146_097;
 
 // 2000-01-01 was a Saturday, day 6 counting Monday as 1.
-const WEEKDAY_OF_2000_OFFSET: u64 = 5;
+pub const WEEKDAY_OF_2000_OFFSET: u64 = 5;
 
 // A date and a time of day. The valid ones are those from 2000-01-01T00:00:00 to 2199-12-31T23:59:59.
 pub struct DateTime {
@@ -252,7 +252,7 @@ fn clamp_u16(value: u16, low: u16, high: u16) -> u16
     value
 }
 
-pub fn is_leap(year: u16) -> bool
+fn is_leap(year: u16) -> bool
     ensures { λ r. ⌜ r ≡ leap year ⌝ }
 {
     if year % 4 != 0 {

@@ -7,6 +7,7 @@
 // checksum by (sum * 31 + value) % 4294967291, from 0 at each century's start.
 use calendar::DateTime;
 use calendar::FromSecondsResult;
+use calendar::SECONDS_PER_DAY;
 use calendar::SecondsResult;
 use calendar::WeekdayResult;
 use calendar::days_in_month;
@@ -59,7 +60,7 @@ fn folded_day(sum: u64, seconds: u64) -> u64 {
 fn days_checksum(first_day: u32, last_day: u32) -> u64 {
     let mut sum = 0;
     for day in first_day..=last_day {
-        sum = folded_day(sum, day as u64 * 86_400 + 45_296);
+        sum = folded_day(sum, day as u64 * SECONDS_PER_DAY + 45_296);
     }
     sum
 }
@@ -81,7 +82,7 @@ fn folded_year(sum: u64, year: u16) -> u64 {
 }
 
 fn print_day(day: u32) {
-    match DateTime::from_seconds_since_2000(day as u64 * 86_400) {
+    match DateTime::from_seconds_since_2000(day as u64 * SECONDS_PER_DAY) {
         FromSecondsResult::Ok(t) => {
             io::print_decimal(1, t.year as u64);
             io::write_all(1, b"-");

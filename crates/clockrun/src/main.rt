@@ -2,6 +2,7 @@
 // An input that cannot be read prints nothing to standard output and a message to standard error.
 use libc::STDIN_FILENO;
 use libc::STDOUT_FILENO;
+use script_listing::LISTING;
 use script_listing::listing;
 use script_listing::within;
 
@@ -39,7 +40,7 @@ fn read(input: &mut [u8]) -> Input {
 
 // Prints the listing of the first `n` bytes.
 fn print(input: &[u8], n: usize) {
-    let mut out = [0u8; 110_688];
+    let mut out = [0u8; LISTING];
     let n = within(n, input);
     let k = listing(&input[..n], &mut out);
     let k = within(k, &out);

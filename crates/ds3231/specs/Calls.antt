@@ -1,7 +1,7 @@
 -- The calls on one chip: what each answers and leaves, in document 01's numbers. Assumes nothing.
 use Rattle.computed.specs.Prelude.{ℕ, _+_, Bool, true, false, not, _&&_, _||_, List, [], _∷_, _++_, leb, ltb, eqb, bitAnd, length, take, drop, replicate, ℤ, pos, negsuc, leZ, if_then_else_}
 use Rattle.refusals.specs.Numbered.{Numbered, accepted, refused, isAccepted, andThen, unless}
-use Rattle.calendar.specs.Stated.{checked, withDay, weekdayOf, monthLength}
+use Rattle.calendar.specs.Stated.{dateTime, checked, withDay, weekdayOf, monthLength}
 use Rattle.calendar.specs.declared.DateTime.{DateTime}
 use Rattle.fields.specs.Bytes.{toDigits}
 use Rattle.fields.specs.Table.{meaning}
@@ -64,6 +64,10 @@ registersOn f = record {
 
 abbrev pub chipOn : Ds3231Config → Ds3231
 chipOn f = record { timing = timingOn f; registers = registersOn f; diagnostics = record { waiting = 0; dropped = 0 } }
+
+-- 'Script answers': power-on (2026-01-01T00:00:00, oscillator not stopped, 100 quarters)
+abbrev pub defaultConfig : Ds3231Config
+defaultConfig = record { start = dateTime 2026 1 1 0 0 0; «oscillator_stopped» = false; «temperature_quarters» = pos 100 }
 
 -- 'The table of refusals': 7, quarters outside −512 to 511
 unfoldable pub checkedQuarters : ℤ → Numbered (Unit {0})

@@ -1,8 +1,10 @@
 // The DS3231 real-time clock: its structs, the bus events and their replies. What its calls mean, document 01's model, the
-// exact time and the report total are definitions and theorems; no function.
+// exact time and the report total are definitions and theorems. Its one function makes the default configuration.
 // To read it: of specs/ `Clock`, `Timing`, `Registers`, `Calls`, then `Model`, `Exact` and `Total`; `Changed` has the parts that
 // chip and model say each for itself. docs/EXACT-TIME.md says the theorem in plain words; its proof is
 // `proofs/ExactTime.antt`, and `proofs/Witness.antt` shows that it is not empty.
+ghost use mathlib.Core.Path.{_≡_};
+ghost use Rattle.ds3231.specs.Calls.{defaultConfig};
 use calendar::DateTime;
 use diagnostics::Diagnostics;
 
@@ -71,6 +73,27 @@ pub struct Ds3231Config {
     pub start: DateTime,
     pub oscillator_stopped: bool,
     pub temperature_quarters: i16,
+}
+
+impl Ds3231Config {
+    // 2026-01-01T00:00:00, oscillator not stopped, 100 quarters.
+    pub fn default() -> Ds3231Config
+        ensures { λ r. ⌜ r ≡ defaultConfig ⌝ }
+    {
+        let start = DateTime {
+            year: 2026,
+            month: 1,
+            day: 1,
+            hour: 0,
+            minute: 0,
+            second: 0,
+        };
+        Ds3231Config {
+            start,
+            oscillator_stopped: false,
+            temperature_quarters: 100,
+        }
+    }
 }
 
 // A bus event, with its instant.

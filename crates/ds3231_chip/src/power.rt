@@ -8,7 +8,9 @@ use crate::PowerOn;
 use crate::PowerOnAnswer;
 use crate::sound::in_quarters;
 use calendar::DateTime;
+use calendar::SECONDS_PER_DAY;
 use calendar::Validity;
+use calendar::WEEKDAY_OF_2000_OFFSET;
 use calendar::weekday_of_day;
 use diagnostics::Diagnostics;
 use ds3231::Clock;
@@ -19,15 +21,11 @@ use ds3231::Phase;
 use ds3231::Registers;
 use ds3231::Timing;
 use ds3231_registers::clock;
-use ds3231_registers::clock::SECONDS_PER_DAY;
 use ds3231_registers::registers::EN32KHZ;
 use ds3231_registers::registers::OSF;
 use ds3231_registers::timing;
 
 const CONTROL_POWER_ON: u8 = 0x1C;
-
-// 2000-01-01 was a Saturday, day 6 counting Monday as 1.
-const WEEKDAY_OF_2000_OFFSET: u64 = 5;
 
 // A clock at the configured start at instant 0, its pointer at 0x00.
 pub fn power_on(config: Ds3231Config) -> PowerOn

@@ -2,12 +2,12 @@
 ghost use mathlib.Core.Path.{_≡_};
 ghost use Rattle.ds3231.specs.Calls.{soundTime, soundPending, soundTiming, inQuarters, soundRegisters, sound};
 use calendar::DateTime;
+use calendar::SECONDS_IN_RANGE;
 use diagnostics::MAX_DIAGNOSTICS;
 use ds3231::Ds3231;
 use ds3231::PendingTime;
 use ds3231::Registers;
 use ds3231::Timing;
-use ds3231_registers::clock::SECONDS_IN_RANGE;
 use ds3231_registers::registers::CONV;
 use ds3231_registers::registers::LAST_REGISTER;
 
@@ -18,8 +18,8 @@ const STATUS_BITS: u8 = 0x8B;
 fn sound_time(time: DateTime) -> bool
     ensures { λ r. ⌜ r ≡ soundTime time ⌝ }
 {
-    (2000 <= time.year)
-        & (time.year <= 2199)
+    (DateTime::FIRST_YEAR <= time.year)
+        & (time.year <= DateTime::LAST_YEAR)
         & (1 <= time.month)
         & (time.month <= 12)
         & (1 <= time.day)

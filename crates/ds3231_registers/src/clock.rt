@@ -4,17 +4,13 @@ ghost use Prim.Native.Nat.{_-_};
 ghost use Rattle.calendar.specs.Stated.{nearest};
 ghost use Rattle.ds3231.specs.Clock.{secondsAt, timeAt, weekdayAt, secondStart, clockSet};
 ghost use Rattle.ds3231.specs.Changed.{offsetFor};
+use calendar::DAYS_PER_WEEK;
 use calendar::DateTime;
+use calendar::SECONDS_IN_RANGE;
+use calendar::SECONDS_PER_DAY;
 use ds3231::Clock;
 
 const NANOS_PER_SECOND: u64 = 1_000_000_000;
-
-pub const SECONDS_PER_DAY: u64 = 86_400;
-
-const DAYS_PER_WEEK: u64 = 7;
-
-// The seconds from 2000-01-01 to the end of 2199, after which the clock begins again.
-pub const SECONDS_IN_RANGE: u64 = 6_311_433_600;
 
 // The seconds since 2000 that the clock shows.
 fn seconds(clock: Clock, at: u64) -> u64

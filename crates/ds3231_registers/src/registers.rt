@@ -4,14 +4,11 @@ ghost use Prim.Native.Nat.{_+_, _-_, min};
 ghost use Rattle.computed.specs.Choice.{if_then_else_};
 ghost use Rattle.ds3231.specs.Registers.{converting, lowByte, temperatureHigh, temperatureLow, otherByte, enablesOutput, startsConversion, byteAt, controlWritten, registersWritten};
 use ds3231::Registers;
+pub use fields::DATE;
+pub use fields::SECONDS;
+pub use fields::YEAR;
 
-// The register map.
-pub const SECONDS: u8 = 0x00;
-
-pub const DATE: u8 = 0x04;
-
-pub const YEAR: u8 = 0x06;
-
+// The register map after the time.
 const ALARM_FIRST: u8 = 0x07;
 
 const ALARM_LAST: u8 = 0x0D;

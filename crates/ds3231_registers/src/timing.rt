@@ -17,8 +17,7 @@ use ds3231::PendingTime;
 use ds3231::Timing;
 use fields::Decoded;
 use fields::Field;
-
-const YEARS_PER_CENTURY: u16 = 100;
+use fields::YEARS_PER_CENTURY;
 
 // The bytes of the seven time registers, in the hour mode last written.
 pub fn time_registers(timing: Timing, at: u64) -> [u8; 7]
@@ -188,18 +187,7 @@ fn changed_weekday(field: Field, weekday: u8) -> u8
 {
     match field {
         Field::Weekday(written) => written,
-        Field::Second(_) => weekday,
-        Field::Minute(_) => weekday,
-        Field::Hour {
-            hour: _,
-            twelve_hour: _,
-        } => weekday,
-        Field::Day(_) => weekday,
-        Field::Month {
-            month: _,
-            century: _,
-        } => weekday,
-        Field::Year(_) => weekday,
+        _ => weekday,
     }
 }
 
@@ -208,18 +196,7 @@ fn is_second(field: Field) -> bool
 {
     match field {
         Field::Second(_) => true,
-        Field::Minute(_) => false,
-        Field::Hour {
-            hour: _,
-            twelve_hour: _,
-        } => false,
-        Field::Weekday(_) => false,
-        Field::Day(_) => false,
-        Field::Month {
-            month: _,
-            century: _,
-        } => false,
-        Field::Year(_) => false,
+        _ => false,
     }
 }
 
@@ -232,15 +209,7 @@ fn changed_mode(field: Field, twelve_hour: bool) -> bool
             hour: _,
             twelve_hour: written,
         } => written,
-        Field::Second(_) => twelve_hour,
-        Field::Minute(_) => twelve_hour,
-        Field::Weekday(_) => twelve_hour,
-        Field::Day(_) => twelve_hour,
-        Field::Month {
-            month: _,
-            century: _,
-        } => twelve_hour,
-        Field::Year(_) => twelve_hour,
+        _ => twelve_hour,
     }
 }
 

@@ -10,7 +10,8 @@ ghost use Rattle.fields.specs.Table.{bit, meaning, timeBytes};
 ghost use Rattle.fields.specs.Answers.{decodedMeaning, ofDigits, ofDigitsWithin};
 use calendar::DateTime;
 
-const SECONDS: u8 = 0x00;
+// The register map of the time.
+pub const SECONDS: u8 = 0x00;
 
 const MINUTES: u8 = 0x01;
 
@@ -18,11 +19,11 @@ const HOURS: u8 = 0x02;
 
 const WEEKDAY: u8 = 0x03;
 
-const DATE: u8 = 0x04;
+pub const DATE: u8 = 0x04;
 
 const MONTH: u8 = 0x05;
 
-const YEAR: u8 = 0x06;
+pub const YEAR: u8 = 0x06;
 
 // The hours register.
 const TWELVE_HOUR: u8 = 0x40;
@@ -36,7 +37,7 @@ const CENTURY: u8 = 0x80;
 
 const MONTH_FIELD: u8 = 0x1F;
 
-const YEARS_PER_CENTURY: u16 = 100;
+pub const YEARS_PER_CENTURY: u16 = 100;
 
 // A field of the time, decoded from a byte written to a time register.
 pub enum Field {
@@ -90,7 +91,7 @@ fn century_bit(year: u16) -> u8
 }
 
 // The hours byte of an hour.
-pub fn encode_hour(hour: u8, twelve_hour: bool) -> u8
+fn encode_hour(hour: u8, twelve_hour: bool) -> u8
     ensures { λ r. ⌜ r ≡ hourByte hour «twelve_hour» ⌝ }
 {
     if !twelve_hour {

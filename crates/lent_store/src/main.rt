@@ -14,7 +14,6 @@ use bus_by_value::take_on;
 use bus_by_value::take_short;
 use bus_by_value::write_on;
 use bus_by_value::write_short;
-use calendar::DateTime;
 use diagnostics::Diagnostics;
 use diagnostics::I2cDiagnostic;
 use diagnostics::I2cDiagnosticKind;
@@ -44,20 +43,7 @@ fn main() {
 
 // A chip at power-on, with a store to which nothing was written.
 fn begun() -> Session {
-    let start = DateTime {
-        year: 2026,
-        month: 1,
-        day: 1,
-        hour: 0,
-        minute: 0,
-        second: 0,
-    };
-    let config = Ds3231Config {
-        start,
-        oscillator_stopped: false,
-        temperature_quarters: 100,
-    };
-    let powered = power_on(config);
+    let powered = power_on(Ds3231Config::default());
     let chip = powered.chip;
     let unwritten = unwritten();
     let store = [unwritten; 256];

@@ -13,6 +13,7 @@ use lib.ListN.{length, take, drop, set, length-append}
 use borrow.Author.Tests.{le-leb, lt-leb, leb-true, not-true, not-false}
 use lib.Seq.{set-split, append-snoc, take-at, drop-append-add, drop-drop, length-take-le, paste-zero}
 use Rattle.diagnostics.specs.Reports.{Line}
+use Rattle.computed.specs.Choice.{if_then_else_}
 use Rattle.computed.proofs.Choice.{le-or-lt}
 use Rattle.listing.specs.Text.{comma, columnText}
 use Rattle.listing.specs.Appended.{appended, Appended, AppendedIn, columnsText}
@@ -88,6 +89,14 @@ having {r} e t a = let f = sym e ∙ not-false r t in record { bytes = rw f (a .
 -- for a caller that has room
 pub fitting : {room at next : ℕ} {text out out′ : List ℕ} → at + room ≤ length out → AppendedIn room text out at out′ next → Appended text out at out′ next
 fitting {room} {at} {next} {text} {out} h a = let e = le-leb (at + room) (length out) h in record { bytes = rw e at (a .bytes); next = rw e at (a .next) }
+
+-- a text that is no longer than its room ends within the slice
+pub ends-within : {room at next : ℕ} {text out out′ : List ℕ} → length text ≤ room → at ≤ length out → AppendedIn room text out at out′ next → (at ≤ next) × (next ≤ length out)
+ends-within {room} {at} {next} {text} {out} h w a = by (leb (at + room) (length out)) refl (a .next)
+  where
+    by : (b : Bool) → leb (at + room) (length out) ≡ b → next ≡ (if b then at + length text else at) → (at ≤ next) × (next ≤ length out)
+    by true e n = let l = leb-true (at + room) (length out) e in (omega arith, omega arith)
+    by false e n = (omega arith, omega arith)
 
 pub room : {r : Bool} (at k n : ℕ) → r ≡ leb (at + k) n → not r ≡ false → at + k ≤ n
 room {r} at k n e t = leb-true (at + k) n (sym e ∙ not-false r t)

@@ -8,7 +8,7 @@ use Prim.Native.Nat.{ℕ, _+_, _*_, _≤_, _<_, min}
 use native.Mathlib.Nat.{min-eq-left, min-eq-right, le-of-lt}
 use native.Mathlib.Omega.{arith}
 use lib.Dec.{eqb}
-use lib.ListN.{length, take, length-append}
+use lib.ListN.{length, take, length-append, length-take}
 use lib.Seq.{take-all}
 use Rattle.computed.specs.Choice.{if_then_else_}
 use Rattle.computed.proofs.Choice.{le-or-lt}
@@ -91,6 +91,10 @@ diagnostic-length d = simp (length-append, column-length) (omega (arith, decimal
 pub lines-length : (ds : List I2cDiagnostic) → length (diagnosticLines ds) ≤ 48 * length ds
 lines-length [] = omega arith
 lines-length (d ∷ ds) = omega (arith, length-append (diagnosticLine d) (diagnosticLines ds), diagnostic-length d, lines-length ds)
+
+-- so have those of the first of 256 records
+pub first-lines-length : (count : ℕ) (ds : List I2cDiagnostic) → length ds ≡ 256 → length (diagnosticLines (take count ds)) ≤ 48 * min count 256
+first-lines-length count ds l = omega (arith, lines-length (take count ds), length-take count ds ∙ ap (min count) l)
 
 -- one line more
 pub lines-more : (ds : List I2cDiagnostic) (d : I2cDiagnostic) → diagnosticLines (ds ++ (d ∷ [])) ≡ diagnosticLines ds ++ diagnosticLine d

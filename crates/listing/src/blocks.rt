@@ -89,13 +89,10 @@ pub(crate) fn report_word(out: &mut [u8], at: usize, kind: I2cDiagnosticKind) ->
     ensures { λ r. ⌜ Appended (wordText (lineOf kind .word)) (now (out .entry)) at (now (out .exit)) r ⌝ }
 {
     match kind {
-        I2cDiagnosticKind::NotModelled { value: _ } => text(out, at, b"NOTMODELLED"),
-        I2cDiagnosticKind::ReadOnly { register: _ } => text(out, at, b"READONLY"),
-        I2cDiagnosticKind::NoSuchRegister { register: _ } => text(out, at, b"NOREGISTER"),
-        I2cDiagnosticKind::Undefined {
-            register: _,
-            value: _,
-        } => text(out, at, b"UNDEFINED"),
+        I2cDiagnosticKind::NotModelled { .. } => text(out, at, b"NOTMODELLED"),
+        I2cDiagnosticKind::ReadOnly { .. } => text(out, at, b"READONLY"),
+        I2cDiagnosticKind::NoSuchRegister { .. } => text(out, at, b"NOREGISTER"),
+        I2cDiagnosticKind::Undefined { .. } => text(out, at, b"UNDEFINED"),
     }
 }
 
@@ -125,8 +122,8 @@ pub(crate) fn columns(out: &mut [u8], at: usize, kind: I2cDiagnosticKind) -> usi
 {
     match kind {
         I2cDiagnosticKind::NotModelled { value } => both_columns(out, at, 0x0E, value),
-        I2cDiagnosticKind::ReadOnly { register } => one_column(out, at, register),
-        I2cDiagnosticKind::NoSuchRegister { register } => one_column(out, at, register),
+        I2cDiagnosticKind::ReadOnly { register } | I2cDiagnosticKind::NoSuchRegister { register } =>
+            { one_column(out, at, register) }
         I2cDiagnosticKind::Undefined { register, value } => both_columns(out, at, register, value),
     }
 }

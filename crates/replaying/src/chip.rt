@@ -30,9 +30,9 @@ pub(crate) fn on(record: [u8; 16]) -> Session {
     with_store(powered.chip)
 }
 
-// The chip of a power-on, with a store.
-pub(crate) fn begun(config: Ds3231Config) -> Session {
-    let powered = ds3231_chip::power_on(config);
+// The chip of the default power-on, with a store.
+pub(crate) fn begun() -> Session {
+    let powered = ds3231_chip::power_on(Ds3231Config::default());
     with_store(powered.chip)
 }
 

@@ -5,8 +5,6 @@ ghost use mathlib.Core.Path.{_≡_};
 ghost use Prim.Native.Nat.{_+_, _<_, _≤_};
 ghost use lib.ListN.{length};
 use bus_by_value::Session;
-use calendar::DateTime;
-use ds3231::Ds3231Config;
 
 mod chip;
 mod dates;
@@ -42,24 +40,11 @@ pub fn replay(input: &[u8]) -> usize
 fn first() -> Run
     ensures { λ r. ⌜ r .at ≡ 0 ⌝ }
 {
-    let start = DateTime {
-        year: 2026,
-        month: 1,
-        day: 1,
-        hour: 0,
-        minute: 0,
-        second: 0,
-    };
-    let config = Ds3231Config {
-        start,
-        oscillator_stopped: false,
-        temperature_quarters: 100,
-    };
     Run {
         at: 0,
         left: 0,
         lists: 0,
-        session: chip::begun(config),
+        session: chip::begun(),
     }
 }
 

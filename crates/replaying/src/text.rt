@@ -1,8 +1,6 @@
 // The text of answers.
 use calendar::DateTime;
 use calendar::DateTimeError;
-use diagnostics::I2cDiagnostic;
-use diagnostics::I2cDiagnosticKind;
 
 pub(crate) fn line_end() {
     io::write_all(1, b"\n");
@@ -126,37 +124,4 @@ fn magnitude(number: i16) -> u16 {
         return (-1 - number) as u16 % 32_768 + 1;
     }
     number as u16
-}
-
-// A diagnostic as `clockrun` prints it: `DS3231,1000300000,UNDEFINED,03,08`.
-pub(crate) fn diagnostic(diagnostic: I2cDiagnostic) {
-    io::write_all(1, b"DS3231");
-    comma_decimal(diagnostic.at);
-    let kind = diagnostic.kind;
-    match kind {
-        I2cDiagnosticKind::Undefined { register, value } => {
-            io::write_all(1, b",UNDEFINED,");
-            hex(register);
-            comma_hex(value);
-        }
-        I2cDiagnosticKind::ReadOnly { register } => {
-            io::write_all(1, b",READONLY,");
-            hex(register);
-            io::write_all(1, b",--");
-        }
-        I2cDiagnosticKind::NoSuchRegister { register } => {
-            io::write_all(1, b",NOREGISTER,");
-            hex(register);
-            io::write_all(1, b",--");
-        }
-        I2cDiagnosticKind::NotModelled { value } => {
-            io::write_all(1, b",NOTMODELLED,0E");
-            comma_hex(value);
-        }
-    }
-}
-
-fn comma_hex(byte: u8) {
-    io::write_all(1, b",");
-    hex(byte);
 }

@@ -4,6 +4,7 @@ ghost use mathlib.Core.Path.{_≡_};
 ghost use Prim.Native.Nat.{_<_, _≤_};
 ghost use lib.ListN.{length};
 use libc::STDOUT_FILENO;
+use script_listing::LISTING;
 use script_listing::listing;
 use script_listing::within;
 
@@ -56,7 +57,7 @@ fn title(number: u64) {
 
 // Prints the listing of a script.
 fn print(script: &[u8]) {
-    let mut out = [0u8; 110_688];
+    let mut out = [0u8; LISTING];
     let n = listing(script, &mut out);
     let n = within(n, &out);
     io::write_all(STDOUT_FILENO, &out[..n]);

@@ -1,15 +1,18 @@
--- The host's number of a check and of a run fits in 32 bits.
+-- The host's number: it fits in 32 bits for a check and for a run, and it is made of a refusal's number and record.
 -- Assumes nothing.
 use Prim.Native.Nat.{ℕ, zero, suc, _+_, _*_, _≤_, _<_, _%_}
-use mathlib.Core.List.{List}
+use mathlib.Core.List.{List, [], _∷_}
+use mathlib.Core.Path.{_≡_, refl, ap, _∙_}
 use native.Mathlib.Omega.{arith}
 use lib.Dec.{ltb, eqb}
 use lib.ListN.{length}
 use borrow.Author.Tests.{ltb-false}
-use Rattle.refusals.specs.Numbered.{Numbered, andThen}
+use Rattle.refusals.specs.Numbered.{Numbered, accepted, refused, andThen}
 use Rattle.computed.proofs.Choice.{chosen}
 use Rattle.script.specs.Records.{recordsIn, littleEndian, instantOf, kindOf, valueOf, badValue, lastOf, recordFault, checkedLength, checkedFrom, checkedScript}
 use Rattle.script.specs.Runs.{checkedRun, hostNumber}
+use Rattle.script.specs.ByValue.{refusalOf}
+use Rattle.script.specs.declared.numbers.Refusal.{Refusal}
 
 record-to : (s : List ℕ) (i : ℕ) → recordFault s i ≤ 19
 unfolding recordFault
@@ -40,3 +43,12 @@ check-fits s = after-length (length s) (checkedFrom s 0 (recordsIn s)) (λ l. re
 pub run-fits : (s : List ℕ) (room : ℕ) → Fits (checkedRun s room)
 unfolding checkedRun
 run-fits s room = after-length (length s) _ (λ l. chosen Fits (eqb room (recordsIn s)) (λ e. records-fit s (recordsIn s) 0 (omega arith)) (λ e. omega arith))
+
+-- the host's number, by the refusal's number and its record
+pub host-of : (v : Numbered (Unit {0})) → refusalOf v .number * 65536 + refusalOf v .«record» ≡ hostNumber v
+host-of (accepted u) = refl
+host-of (refused n []) = omega arith
+host-of (refused n (i ∷ is)) = refl
+
+pub host-is : (r : Refusal) (v : Numbered (Unit {0})) → r ≡ refusalOf v → r .number * 65536 + r .«record» ≡ hostNumber v
+host-is r v e = ap (λ (x : Refusal). x .number * 65536 + x .«record») e ∙ host-of v

@@ -41,11 +41,11 @@ module _ (b : Bool) (v : Numbered (Unit {0})) (n : ℕ) (values : List ℤ) wher
 
 -- ---- the length
 
-record ShortWhole (n : ℕ) : Type 0 where
-  short : n ≤ 32768
+pub record ShortWhole (n : ℕ) : Type 0 where
+  pub short : n ≤ 32768
   whole : n % 16 ≡ 0
 
-accepted-length : (n : ℕ) → checkedLength n ≡ accepted (tt {0}) → ShortWhole n
+pub accepted-length : (n : ℕ) → checkedLength n ≡ accepted (tt {0}) → ShortWhole n
 unfolding checkedLength
 accepted-length n e = by (ltb 32768 n) refl e
   where

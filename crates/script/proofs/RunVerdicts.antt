@@ -15,7 +15,7 @@ use Rattle.computed.specs.Choice.{if_then_else_}
 use Rattle.calendar.specs.Stated.{InRange, dateTime}
 use Rattle.calendar.proofs.Laws.{in-range-accepted, month-bounds}
 use Rattle.diagnostics.specs.declared.I2cDiagnostic.{I2cDiagnostic}
-use Rattle.ds3231.specs.Calls.{sound, inQuarters, checkedQuarters, chipOn, powerOn}
+use Rattle.ds3231.specs.Calls.{sound, inQuarters, checkedQuarters, chipOn, defaultConfig, powerOn}
 use Rattle.ds3231.specs.declared.Ds3231.{Ds3231}
 use Rattle.ds3231.specs.declared.Ds3231Config.{Ds3231Config}
 use Rattle.ds3231.proofs.ExactTime.{power-on-sound}
@@ -71,6 +71,9 @@ answer-leaves StoreLength n after before = refl
 answer-leaves AnswersLength n after before = refl
 answer-leaves (Script f) n after before = fault-refuses (λ v. before ≡ unless v after before) (λ m vs. refl) f
 
+pub not-accepted : (v : RunAnswer) → (v ≡ Done → ⊥) → runNumbered v ≡ accepted tt → ⊥
+not-accepted v n e = let z : _≡_ {A = ℕ} 1 0 = answer-leaves v n 0 1 ∙ ap (λ (w : Numbered (Unit {0})). unless w 0 1) e in omega arith
+
 -- ---- a run that goes through, and one that is refused
 
 module _ (c : Ds3231) (len : ℕ) (s : List ℕ) (room : ℕ) (v : RunAnswer) (f : CheckedOnStores c len s room v) (d : v ≡ Done) where
@@ -100,21 +103,18 @@ module _ (c : Ds3231) (len : ℕ) (rs : List I2cDiagnostic) (s a : List ℕ) whe
 
 -- ---- the run from `clockrun`'s power-on
 
-abbrev clockrunConfig : Ds3231Config
-clockrunConfig = record { start = dateTime 2026 1 1 0 0 0; «oscillator_stopped» = false; «temperature_quarters» = pos 100 }
-
-on : powerOn clockrunConfig ≡ accepted (chipOn clockrunConfig)
+on : powerOn defaultConfig ≡ accepted (chipOn defaultConfig)
 unfolding checkedQuarters inQuarters
 on =
     let v : InRange (dateTime 2026 1 1 0 0 0) = omega (arith, month-bounds 2026 1) in
     rw (in-range-accepted (dateTime 2026 1 1 0 0 0) v)
 
 pub power-on-is-sound : sound (clockrunHeld .chip) ≡ true
-power-on-is-sound = power-on-sound clockrunConfig (chipOn clockrunConfig) on
+power-on-is-sound = power-on-sound defaultConfig (chipOn defaultConfig) on
 
 -- it gives that chip
-pub powers-on : (r : PowerOn) → PoweredOn clockrunConfig r → r .chip ≡ chipOn clockrunConfig
-powers-on r p = p .chip ∙ ap poweredChip on
+pub powers-on : {f : Ds3231Config} → f ≡ defaultConfig → (r : PowerOn) → PoweredOn f r → r .chip ≡ chipOn defaultConfig
+powers-on e r p = p .chip ∙ ap (λ (g : Ds3231Config). poweredChip (powerOn g)) e ∙ ap poweredChip on
 
 -- neither its chip nor its store is refused
 pub power-on-verdict : (s : List ℕ) (room : ℕ) → runVerdict clockrunHeld s room ≡ checkedRun s room
@@ -122,7 +122,7 @@ unfolding runVerdict
 power-on-verdict s room = ap (λ (b : Bool). if not b then refused 10 [] else checkedRun s room) power-on-is-sound
 
 -- so a run on it is one on what is held after it
-pub runs-from : {s a : List ℕ} {c : Ds3231} {rs : List I2cDiagnostic} {r : RunAnswer} {c′ : Ds3231} {st′ : List I2cDiagnostic} {a′ : List ℕ} → c ≡ chipOn clockrunConfig → rs ≡ clockrunHeld .store
+pub runs-from : {s a : List ℕ} {c : Ds3231} {rs : List I2cDiagnostic} {r : RunAnswer} {c′ : Ds3231} {st′ : List I2cDiagnostic} {a′ : List ℕ} → c ≡ chipOn defaultConfig → rs ≡ clockrunHeld .store
     → Ran (record { chip = c; store = rs }) s a r c′ st′ a′ → Ran clockrunHeld s a r c′ st′ a′
 runs-from {s} {a} {c} {rs} {r} {c′} {st′} {a′} p q t =
     subst (λ (h : Held). Ran h s a r c′ st′ a′) (ap₂ (λ (x : Ds3231) (y : List I2cDiagnostic). record { chip = x; store = y }) p q) t

@@ -1,10 +1,12 @@
--- Need not be believed: the promises of functions that are no calls of document 01. `run` and `run_values`, whose promise is `Ran`, consume those on stores (`shows` in proofs/Rows.antt); `listing` of script_listing/src/lib.rt consumes `recordAt`, and promises an equation with `listingOf` of script_listing/specs/Listing.antt. Assumes nothing.
-use Rattle.computed.specs.Prelude.{ℕ, cond, List, _≡_, ltb, eqb, length, if_then_else_}
+-- Need not be believed: the promises of functions that are no calls of document 01. `run` and `run_values`, whose promise is `Ran`, consume those on stores (`shows` in proofs/Rows.antt); `clock_script_check` and `clock_script_run`, whose promise is an equation with `hostNumber`, consume `refusalOf` (proofs/HostLaws.antt); `listing` of script_listing/src/lib.rt consumes it and `recordAt`, and promises an equation with `listingOf` of script_listing/specs/Listing.antt. Assumes nothing.
+use Rattle.computed.specs.Prelude.{ℕ, cond, true, false, List, [], _∷_, _≡_, ltb, eqb, length, natAbs, if_then_else_}
+use Rattle.refusals.specs.Numbered.{Numbered, accepted, refused}
 use Rattle.diagnostics.specs.declared.I2cDiagnostic.{I2cDiagnostic}
 use Rattle.ds3231.specs.declared.Ds3231.{Ds3231}
 use Rattle.script.specs.Records.{instantOf, kindOf, valueOf, recordsIn}
 use Rattle.script.specs.Runs.{Ran, runNumbered, runVerdict}
 use Rattle.script.specs.declared.records.Record.{Record}
+use Rattle.script.specs.declared.numbers.Refusal.{Refusal}
 use Rattle.script.specs.declared.runs.RunAnswer.{RunAnswer}
 use Rattle.script.specs.declared.runs.RunOutcome.{RunOutcome}
 
@@ -16,6 +18,12 @@ CheckedOnStores c len s room r = (st : List I2cDiagnostic) → length st ≡ len
 abbrev pub RanOnStores : Ds3231 → (len : ℕ) → List I2cDiagnostic → List ℕ → List ℕ → RunOutcome → List ℕ → Type 0
 RanOnStores c len rs s a r a′ =
     (st : List I2cDiagnostic) → length st ≡ len → (len ≡ 256 → st ≡ rs) → Ran (record { chip = c; store = st }) s a (r .answer) (r .chip) (if eqb len 256 then r .records else st) a′
+
+-- `fault_refusal`, `run_refusal`: the number of a refusal, 0 for none, and the record that it names, if it names one
+abbrev pub refusalOf : Numbered (Unit {0}) → Refusal
+refusalOf (accepted u) = record { number = 0; «has_record» = false; «record» = 0 }
+refusalOf (refused n []) = record { number = n; «has_record» = false; «record» = 0 }
+refusalOf (refused n (i ∷ is)) = record { number = n; «has_record» = true; «record» = natAbs i }
 
 -- `whole`: how many records of a store of n are copied
 unfoldable pub wholeOf : ℕ → ℕ

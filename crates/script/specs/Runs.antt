@@ -1,10 +1,9 @@
 -- What a run of a script answers and leaves, by the chip's own calls, record after record: document 01, 'Script answers' and 'The table of refusals'. Assumes nothing.
-use Rattle.computed.specs.Prelude.{ℕ, zero, suc, _+_, _*_, _/_, _%_, false, not, List, [], _∷_, _++_, _≡_, eqb, length, replicate, pos, natAbs, if_then_else_}
+use Rattle.computed.specs.Prelude.{ℕ, zero, suc, _+_, _*_, _/_, _%_, not, List, [], _∷_, _++_, _≡_, eqb, length, replicate, natAbs, if_then_else_}
 use Rattle.refusals.specs.Numbered.{Numbered, accepted, refused, andThen, unless}
-use Rattle.calendar.specs.Stated.{dateTime}
 use Rattle.diagnostics.specs.Reports.{unwritten}
 use Rattle.diagnostics.specs.declared.I2cDiagnostic.{I2cDiagnostic}
-use Rattle.ds3231.specs.Calls.{sound, chipOn, Answered, replied, copied, bus, chipAfter, storeAfter, answer}
+use Rattle.ds3231.specs.Calls.{sound, chipOn, defaultConfig, Answered, replied, copied, bus, chipAfter, storeAfter, answer}
 use Rattle.ds3231.specs.declared.Ds3231.{Ds3231}
 use Rattle.ds3231.specs.declared.Event.{Event}
 use Rattle.ds3231.specs.declared.Event.the-variants.{Start, Write, Read, Stop}
@@ -76,9 +75,9 @@ pub record Ran (h : Held) (s : List ℕ) (a : List ℕ) (r : RunAnswer) (c′ : 
   pub store : st′ ≡ unless (runVerdict h s (length a)) (heldAt s h (recordsIn s) .store) (h .store)
   pub bytes : a′ ≡ unless (runVerdict h s (length a)) (answersTo s h (recordsIn s)) a
 
--- 'Script answers': power-on at 2026-01-01T00:00:00, oscillator not stopped, 100 quarters
+-- 'Script answers': `clockrun` runs a script from power-on
 abbrev pub clockrunHeld : Held
-clockrunHeld = record { chip = chipOn (record { start = dateTime 2026 1 1 0 0 0; «oscillator_stopped» = false; «temperature_quarters» = pos 100 }); store = replicate 256 unwritten }
+clockrunHeld = record { chip = chipOn defaultConfig; store = replicate 256 unwritten }
 
 -- 'Script answers': the host's number, 0, or the refusal number times 65,536 plus the record, which counts as 0 for 13 to 15
 abbrev pub hostNumber : Numbered (Unit {0}) → ℕ

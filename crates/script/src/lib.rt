@@ -1,13 +1,17 @@
 // Scripts: the check, the run on a chip, and the two calls for a host in C or Rust.
 // To read it: `specs/Records.antt` has what a record is and which scripts are legal, `specs/Runs.antt` what a run answers and
 // leaves, and the host's number; `proofs/Laws.antt` and `proofs/RunLaws.antt` have the laws of both.
-// Modules: `records` has what stands in a record, `checks` the check, `runs` the run, and `host` the host's calls.
+// Modules: `records` has what stands in a record, `checks` the check, `runs` the run, `numbers` the refusals of both by
+// number, and `host` the host's calls.
 mod checks;
 mod host;
+mod numbers;
 mod records;
 mod runs;
 
 pub use checks::check;
+pub use numbers::Refusal;
+pub use numbers::run_refusal;
 pub use records::Record;
 pub use records::record_at;
 pub use runs::RunAnswer;

@@ -12,7 +12,6 @@ use crate::ScriptFault;
 use crate::checks::check_length;
 use crate::checks::check_records;
 use crate::records;
-use calendar::DateTime;
 use diagnostics::I2cDiagnostic;
 use diagnostics::MAX_DIAGNOSTICS;
 use ds3231::Ds3231;
@@ -46,20 +45,7 @@ pub struct RunOutcome {
 pub fn run_from_power_on(script: &[u8], answers: &mut [u8]) -> RunOutcome
     ensures { λ r. ⌜ Ran clockrunHeld (now (script .entry)) (now (answers .entry)) (r .answer) (r .chip) (r .records) (now (answers .exit)) ⌝ }
 {
-    let start = DateTime {
-        year: 2026,
-        month: 1,
-        day: 1,
-        hour: 0,
-        minute: 0,
-        second: 0,
-    };
-    let config = Ds3231Config {
-        start,
-        oscillator_stopped: false,
-        temperature_quarters: 100,
-    };
-    let powered = power_on(config);
+    let powered = power_on(Ds3231Config::default());
     let chip = powered.chip;
     let unwritten = I2cDiagnostic::unwritten();
     let records = [unwritten; 256];

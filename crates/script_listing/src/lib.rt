@@ -1,33 +1,38 @@
 // What `clockrun` prints for a script, whole, made in a lent slice of bytes.
 // To read it: `specs/Listing.antt` has the listing of a script, or the line of its refusal; the lines are `listing`'s.
-ghost use mathlib.Core.List.{[], _++_};
+ghost use mathlib.Core.List.{_++_};
 ghost use mathlib.Core.Path.{_≡_};
-ghost use Prim.Native.Nat.{_+_, _*_, _≤_, min};
+ghost use Prim.Native.Nat.{_+_, _*_, _/_, _≤_, min};
 ghost use lib.Dec.{leb};
 ghost use lib.ListN.{length, drop};
 ghost use Rattle.computed.specs.Choice.{if_then_else_};
 ghost use Rattle.io.specs.Counts.{Counts};
-ghost use Rattle.refusals.specs.Numbered.{accepted};
 ghost use Rattle.listing.specs.Appended.{Appended};
-ghost use Rattle.script.specs.Records.{recordsIn, checkedScript, faultNumbered};
-ghost use Rattle.script.specs.Runs.{answersTo, clockrunHeld};
-ghost use Rattle.script_listing.specs.Listing.{eventLines, ranListing, listingBy, listingOf};
+ghost use Rattle.script.specs.Records.{recordsIn};
+ghost use Rattle.script.specs.Runs.{heldAt, answersTo, clockrunHeld};
+ghost use Rattle.script_listing.specs.Listing.{eventLines, ranListing, listingOf};
+use diagnostics::MAX_DIAGNOSTICS;
+use listing::LINE;
 use listing::diagnostic_lines;
 use listing::dropped_line;
 use listing::event_line;
 use listing::header;
 use listing::refused_line;
-use script::CheckAnswer;
 use script::RECORD;
-use script::ScriptFault;
-use script::check;
+use script::RunAnswer;
+use script::RunOutcome;
 use script::record_at;
 use script::run_from_power_on;
+use script::run_refusal;
 
-// Room for every line of a script: the header, 2,048 events, 256 diagnostics and the dropped count.
-pub const LISTING: usize = 110_688;
+// The most records of a script.
+const MAX_RECORDS: usize = 2_048;
 
-// The text of a script, in front of what stood behind it, where there is room for any script's: else nothing.
+// Room for every line of a script: the header, the events, the diagnostics and the dropped count.
+pub const LISTING: usize = LINE * (1 + MAX_RECORDS + MAX_DIAGNOSTICS + 1);
+
+// The text of a script, in front of what stood behind it, where there is room for any script's: else nothing. The answers
+// stand in the first bytes of a local array.
 pub fn listing(script: &[u8], out: &mut [u8]) -> usize
     ensures { λ r. ⌜ r ≡ (if leb 110688 (length (now (out .entry))) then length (listingOf (now (script .entry))) else 0) ⌝ }
     ensures { λ r. ⌜ now (out .exit) ≡ (if leb 110688 (length (now (out .entry))) then listingOf (now (script .entry)) ++ drop (length (listingOf (now (script .entry)))) (now (out .entry)) else now (out .entry)) ⌝ }
@@ -35,43 +40,49 @@ pub fn listing(script: &[u8], out: &mut [u8]) -> usize
     if out.len() < LISTING {
         return 0;
     }
-    match check(script) {
-        CheckAnswer::Legal => ran(script, out),
-        CheckAnswer::Refused(fault) => refusal(fault, out),
-    }
-}
-
-// The line of a script that is refused.
-fn refusal(fault: ScriptFault, out: &mut [u8]) -> usize
-    requires { ⌜ 110688 ≤ length (now out) ⌝ }
-    ensures { λ r. ⌜ Appended (listingBy (faultNumbered fault) []) (now (out .entry)) 0 (now (out .exit)) r ⌝ }
-{
-    match fault {
-        ScriptFault::TooLong => refused_line(out, 0, 14, false, 0),
-        ScriptFault::NotWhole => refused_line(out, 0, 13, false, 0),
-        ScriptFault::Kind(record) => refused_line(out, 0, 16, true, record as u64),
-        ScriptFault::Value(record) => refused_line(out, 0, 17, true, record as u64),
-        ScriptFault::Padding(record) => refused_line(out, 0, 18, true, record as u64),
-        ScriptFault::Falling(record) => refused_line(out, 0, 19, true, record as u64),
-    }
-}
-
-// The text of a legal script. Its answers stand in the first bytes of a local array.
-fn ran(script: &[u8], out: &mut [u8]) -> usize
-    requires { ⌜ (checkedScript (now script) ≡ accepted tt) × (110688 ≤ length (now out)) ⌝ }
-    ensures { λ r. ⌜ Appended (ranListing (now (script .entry))) (now (out .entry)) 0 (now (out .exit)) r ⌝ }
-{
-    let mut space = [0u8; 2048];
-    let n = script.len() / RECORD;
+    let mut space = [0u8; MAX_RECORDS];
+    let n = answers_of(script.len());
     listed(script, &mut space[..n], out)
 }
 
-// The same, with a byte lent for each answer.
+// How many answers a script of `len` bytes has, if it is not too long.
+fn answers_of(len: usize) -> usize
+    ensures { λ r. ⌜ r ≡ min (len / 16) 2048 ⌝ }
+{
+    if len < RECORD * MAX_RECORDS {
+        return len / RECORD;
+    }
+    MAX_RECORDS
+}
+
+// Runs the script, with a byte lent for each answer, and goes by what the run answers.
 fn listed(script: &[u8], answers: &mut [u8], out: &mut [u8]) -> usize
-    requires { ⌜ (checkedScript (now script) ≡ accepted tt) × (length (now answers) ≡ recordsIn (now script)) × (110688 ≤ length (now out)) ⌝ }
-    ensures { λ r. ⌜ Appended (ranListing (now (script .entry))) (now (out .entry)) 0 (now (out .exit)) r ⌝ }
+    requires { ⌜ (length (now answers) ≡ min (recordsIn (now script)) 2048) × (110688 ≤ length (now out)) ⌝ }
+    ensures { λ r. ⌜ Appended (listingOf (now (script .entry))) (now (out .entry)) 0 (now (out .exit)) r ⌝ }
 {
     let end = run_from_power_on(script, answers);
+    let answer = end.answer;
+    match answer {
+        RunAnswer::Done => ran(script, answers, end, out),
+        _ => {
+            let refusal = run_refusal(answer);
+            refused_line(
+                out,
+                0,
+                refusal.number,
+                refusal.has_record,
+                refusal.record as u64,
+            )
+        }
+    }
+}
+
+// The text of a script that ran, from its answers and what the run left.
+fn ran(script: &[u8], answers: &[u8], end: RunOutcome, out: &mut [u8]) -> usize
+    requires { ⌜ (now answers ≡ answersTo (now script) clockrunHeld (recordsIn (now script))) × (record { chip = end .chip; store = end .records } ≡ heldAt (now script) clockrunHeld (recordsIn (now script))) ⌝ }
+    requires { ⌜ (recordsIn (now script) ≤ 2048) × (110688 ≤ length (now out)) ⌝ }
+    ensures { λ r. ⌜ Appended (ranListing (now (script .entry))) (now (out .entry)) 0 (now (out .exit)) r ⌝ }
+{
     let chip = end.chip;
     let records = end.records;
     let waiting = chip.diagnostics.waiting;

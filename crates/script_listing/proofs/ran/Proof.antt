@@ -1,21 +1,33 @@
 -- `script_listing::ran` meets its contract.
 -- Assumes nothing.
-use mathlib.Core.Path.{sym}
-use Rattle.script_listing.proofs.Legal.{at-most, part-length}
+use Rattle.script_listing.proofs.Whole.{after-header, whole}
+use mathlib.Core.Path.{sym, _∙_}
+use lib.ListN.{length-map}
 use borrow.Author.Needs.{needs}
 use Rattle.script_listing.proofs.ran.Statement.{statement}
 use Rattle.script_listing.proofs.ran.Tie as tie
 
-array-borrow-prefix-space : tie.Need-array-borrow-prefix-space
-array-borrow-prefix-space c = let start = c .before .before in at-most (start .args .script .now) (start .pre .0)
+event-lines-requires : tie.Need-event-lines-requires
+event-lines-requires c κs =
+    let at-header = c .before .before .before in
+    let start = at-header .before .before .before .before .before .before .before in
+    (start .pre .0 .0, after-header (start .args .script .now) (start .pre .1 .0) (start .pre .1 .1) (at-header .header .kept .0) (at-header .header .ensures))
 
-slice-aggregate-listed : tie.Need-slice-aggregate-listed
-slice-aggregate-listed c = let start = c .before .before .before in sym (part-length (start .args .script .now) (start .pre .0))
-
-listed-requires : tie.Need-listed-requires
-listed-requires c κs = let start = c .before .before .before .before in (start .pre .0, part-length (start .args .script .now) (start .pre .0), start .pre .1)
+returns : tie.Need-returns
+returns c =
+    let at-dropped = c .before .before in
+    let at-waiting = at-dropped .before .before .before .before in
+    let at-events = at-waiting .before .before .before .before in
+    let at-header = at-events .before .before .before .before in
+    let start = at-header .before .before .before .before .before .before .before in
+    whole (start .args .script .now) (start .args .end) (start .pre .1 .0) (start .pre .0 .1) (sym (length-map (start .args .end .records) _) ∙ start .good .1 .1 .0 .1 .1 .1 .1 .0 .1 .0 .1) (start .pre .1 .1) (search needs) (search needs) (search needs)
+    (at-header .header .ensures) (at-events .event-lines .ensures) (at-waiting .diagnostic-lines .ensures) (at-dropped .dropped-line .ensures)
 
 pub ran-spec : {M : Type 1} → statement M
 ran-spec =
     tie.close
-    (tie.spec array-borrow-prefix-space slice-aggregate-listed listed-requires (λ c. search needs) (λ c. search needs))
+    (tie.spec
+    (λ c κs. search needs)
+    event-lines-requires
+    (λ c κs. search needs) (λ c κs. search needs) (λ c. search needs)
+    returns)

@@ -1,7 +1,7 @@
 -- `script::runs::ran` meets its contract.
 -- Assumes nothing.
-use mathlib.Core.Logic.{⊎-elim}
-use native.Mathlib.Omega.{arith}
+use mathlib.Core.List.{[], _∷_}
+use types.Run.{miss}
 use Rattle.script.proofs.RunVerdicts.{accepted-on, accepted-values, goes-through, is-refused}
 use borrow.Author.Needs.{needs}
 use Rattle.script.proofs.runs.ran.Statement.{statement}
@@ -9,7 +9,7 @@ use Rattle.script.proofs.runs.ran.Tie as tie
 
 -- a refused run leaves all as it was
 returns-2 : tie.Need-returns-2
-returns-2 c = is-refused _ _ _ _ _ _ (c .before .checked .ensures) (λ e. ⊎-elim (λ x. omega (arith, x)) (⊎-elim (λ x. omega (arith, x)) (⊎-elim (λ x. omega (arith, x)) (λ x. omega (arith, x)))) (rw e at (c .match .keys2)))
+returns-2 c = is-refused _ _ _ _ _ _ (c .before .checked .ensures) (λ e. miss (1 ∷ 2 ∷ 3 ∷ 4 ∷ []) 0 tt (rw e at (c .match .keys2)))
 
 events-requires : tie.Need-events-requires
 events-requires c κs = accepted-values _ _ _ _ _ (c .before .before .before .checked .ensures) (c .before .enum-told .given .1) _ (search needs)

@@ -11,9 +11,11 @@ use Rattle.script.proofs.runs.run_from_power_on.Tie as tie
 returns : tie.Need-returns
 returns c =
     let r = c .before .before in
-    runs-from (powers-on _ (r .before .before .before .before .power-on .ensures)) (ap (λ (d : I2cDiagnostic). replicate 256 d) (r .before .before .unwritten .ensures)) (r .run-values .ensures)
+    runs-from (powers-on (r .before .before .before .before .before .default .ensures) _ (r .before .before .before .before .power-on .ensures)) (ap (λ (d : I2cDiagnostic). replicate 256 d) (r .before .before .unwritten .ensures)) (r .run-values .ensures)
 
 pub run-from-power-on-spec : {M : Type 1} → statement M
 run-from-power-on-spec =
     tie.close
-    (tie.spec (λ c κs. search needs) (λ c κs. search needs) (λ c κs. search needs) (λ c. search needs) returns)
+    (tie.spec
+    (λ c κs. search needs) (λ c κs. search needs) (λ c κs. search needs) (λ c κs. search needs) (λ c. search needs)
+    returns)

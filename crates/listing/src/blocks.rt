@@ -71,16 +71,12 @@ pub(crate) fn event_word(out: &mut [u8], at: usize, kind: u8) -> usize
     requires { ⌜ at + 5 ≤ length (now out) ⌝ }
     ensures { λ r. ⌜ Appended (eventWord kind) (now (out .entry)) at (now (out .exit)) r ⌝ }
 {
-    if kind == 0 {
-        return text(out, at, b"START");
+    match kind {
+        0 => text(out, at, b"START"),
+        1 => text(out, at, b"WRITE"),
+        2 => text(out, at, b"READ"),
+        _ => text(out, at, b"STOP"),
     }
-    if kind == 1 {
-        return text(out, at, b"WRITE");
-    }
-    if kind == 2 {
-        return text(out, at, b"READ");
-    }
-    text(out, at, b"STOP")
 }
 
 // The word for a report's kind.

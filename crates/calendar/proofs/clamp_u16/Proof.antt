@@ -5,14 +5,10 @@ use Rattle.gregorian.proofs.Nearest.{low, same, high}
 use Rattle.calendar.proofs.clamp_u16.Statement.{statement}
 use Rattle.calendar.proofs.clamp_u16.Tie as tie
 
-returns : tie.Need-returns
-returns c = sym (low _ _ _ (c .if1 .taken))
-
-returns-2 : tie.Need-returns-2
-returns-2 c = sym (high _ _ _ (c .before .if1 .left) (c .if2 .taken))
-
-returns-3 : tie.Need-returns-3
-returns-3 c = sym (same _ _ _ (c .before .if1 .left) (c .if2 .left))
-
 pub clamp-u16-spec : {M : Type 1} → statement M
-clamp-u16-spec = tie.close (tie.spec returns returns-2 returns-3)
+clamp-u16-spec =
+    tie.close
+    (tie.spec
+    (λ c. sym (low _ _ _ (c .if1 .taken)))
+    (λ c. sym (high _ _ _ (c .before .if1 .left) (c .if2 .taken)))
+    (λ c. sym (same _ _ _ (c .before .if1 .left) (c .if2 .left))))

@@ -11,25 +11,11 @@ Inv-loop reporting₀ at₀ reporting at = Unit {0}
 abbrev μ-loop : tie.MeasureT-loop
 μ-loop reporting₀ at₀ reporting at = 300 - at
 
-loop-holds : tie.Need-loop-holds Inv-loop μ-loop
-loop-holds c = search needs
-
-one-report-requires : tie.Need-one-report-requires Inv-loop μ-loop
-one-report-requires c κs = search needs
-
-add-at : tie.Need-add-at Inv-loop μ-loop
-add-at c = search needs
-
-loop-less : tie.Need-loop-less Inv-loop μ-loop
-loop-less c = search needs
-
-loop-again : tie.Need-loop-again Inv-loop μ-loop
-loop-again c = search needs
-
-returns : tie.Need-returns Inv-loop μ-loop
-returns c = search needs
-
 pub report-300-spec : {M : Type 1} → statement M
 report-300-spec =
     tie.close
-    (tie.spec Inv-loop μ-loop loop-holds one-report-requires add-at loop-less loop-again returns)
+    (tie.spec
+    Inv-loop
+    μ-loop
+    (λ c. search needs) (λ c κs. search needs) (λ c. search needs) (λ c. search needs) (λ c. search needs)
+    (λ c. search needs))

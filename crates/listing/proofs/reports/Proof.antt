@@ -37,20 +37,8 @@ sized records i = omega (arith, lines-length (take i records), length-take i rec
 loop-holds : tie.Need-loop-holds Inv-loop μ-loop
 loop-holds c = record { within = search needs; kept = refl; written = nothing _ _ }
 
-mul-diagnostic : tie.Need-mul-diagnostic Inv-loop μ-loop
-mul-diagnostic c = search needs
-
-array-copy-out-diagnostic : tie.Need-array-copy-out-diagnostic Inv-loop μ-loop
-array-copy-out-diagnostic c = search needs
-
 report-requires : tie.Need-report-requires Inv-loop μ-loop
 report-requires c κs = omega (arith, sized (c .before .before .before .before .before .args .t3) (c .before .before .before .loop .i))
-
-add-i : tie.Need-add-i Inv-loop μ-loop
-add-i c = search needs
-
-loop-less : tie.Need-loop-less Inv-loop μ-loop
-loop-less c = search needs
 
 -- what a read past the end would give
 abbrev blank : I2cDiagnostic
@@ -75,9 +63,6 @@ loop-again c =
     let l : length (start .args .t3) ≡ 256 = start .good .1 .1 .0 .1 .0 .1 in
     turn _ _ _ _ _ _ _ _ _ (within _ (start .pre .1)) (omega arith) (at-loop-test .loop-test .taken) (at-loop .loop .inv) (at-report .report .kept .0) (at-report .report .ensures)
 
-same-length : tie.Need-same-length Inv-loop μ-loop
-same-length c = search needs
-
 returns : tie.Need-returns Inv-loop μ-loop
 returns c = let e = le-antisymm (c .before .loop .inv .within) (c .loop-test .left) in rw e at (c .before .loop .inv .written)
 
@@ -88,11 +73,9 @@ reports-spec =
     Inv-loop
     μ-loop
     loop-holds
-    mul-diagnostic
-    array-copy-out-diagnostic
+    (λ c. search needs) (λ c. search needs)
     report-requires
-    add-i
-    loop-less
+    (λ c. search needs) (λ c. search needs)
     loop-again
-    same-length
+    (λ c. search needs)
     returns)

@@ -17,21 +17,6 @@ abbrev μ-loop : tie.MeasureT-loop
 loop-holds : tie.Need-loop-holds Inv-loop μ-loop
 loop-holds c = begins _ _ _ _ (c .before .before .before .pre .0)
 
-record-at-requires : tie.Need-record-at-requires Inv-loop μ-loop
-record-at-requires c κs = search needs
-
-shared-slice-read-answer : tie.Need-shared-slice-read-answer Inv-loop μ-loop
-shared-slice-read-answer c = search needs
-
-event-line-requires : tie.Need-event-line-requires Inv-loop μ-loop
-event-line-requires c κs = search needs
-
-add-i : tie.Need-add-i Inv-loop μ-loop
-add-i c = search needs
-
-loop-less : tie.Need-loop-less Inv-loop μ-loop
-loop-less c = search needs
-
 loop-again : tie.Need-loop-again Inv-loop μ-loop
 loop-again c =
     let at-line = c .before .before in
@@ -40,9 +25,6 @@ loop-again c =
     let start = at-test .before .before .before .before .before in
     turn (start .pre .0) (start .pre .1) (at-test .loop-test .taken) (at-test .before .loop .inv) (at-line .event-line .kept .0) (at-record .record-at .result) (at-record .record-at .ensures)
     (at-line .event-line .ensures)
-
-same-length : tie.Need-same-length Inv-loop μ-loop
-same-length c = search needs
 
 returns : tie.Need-returns Inv-loop μ-loop
 returns c =
@@ -56,11 +38,7 @@ event-lines-spec =
     Inv-loop
     μ-loop
     loop-holds
-    record-at-requires
-    shared-slice-read-answer
-    event-line-requires
-    add-i
-    loop-less
+    (λ c κs. search needs) (λ c. search needs) (λ c κs. search needs) (λ c. search needs) (λ c. search needs)
     loop-again
-    same-length
+    (λ c. search needs)
     returns)

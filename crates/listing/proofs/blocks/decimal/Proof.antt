@@ -16,15 +16,6 @@ abbrev μ-loop : tie.MeasureT-loop
 loop-holds : tie.Need-loop-holds Inv-loop μ-loop
 loop-holds c = none-yet _ (search needs)
 
-cast-digits : tie.Need-cast-digits Inv-loop μ-loop
-cast-digits c = search needs
-
-add-digits : tie.Need-add-digits Inv-loop μ-loop
-add-digits c = search needs
-
-array-write-digits : tie.Need-array-write-digits Inv-loop μ-loop
-array-write-digits c = search needs
-
 sub-i : tie.Need-sub-i Inv-loop μ-loop
 sub-i c = has-place _ _ _ _ (c .before .loop .inv) (c .loop-test .taken)
 
@@ -33,21 +24,6 @@ loop-less c = let h = has-place _ _ _ _ (c .before .loop .inv) (c .loop-test .ta
 
 loop-again : tie.Need-loop-again Inv-loop μ-loop
 loop-again c = turn _ _ _ _ (c .before .loop .inv) (c .loop-test .taken)
-
-cast-digits-2 : tie.Need-cast-digits-2 Inv-loop μ-loop
-cast-digits-2 c = search needs
-
-add-digits-2 : tie.Need-add-digits-2 Inv-loop μ-loop
-add-digits-2 c = search needs
-
-array-write-digits-2 : tie.Need-array-write-digits-2 Inv-loop μ-loop
-array-write-digits-2 c = search needs
-
-sub-text : tie.Need-sub-text Inv-loop μ-loop
-sub-text c = search needs
-
-part-text-start : tie.Need-part-text-start Inv-loop μ-loop
-part-text-start c = search needs
 
 part-text-end : tie.Need-part-text-end Inv-loop μ-loop
 part-text-end c = simp length-set (omega arith)
@@ -58,9 +34,6 @@ text-requires c κs =
     let at-loop = at-loop-test .before in
     let start = at-loop .before .before in
     rw (whole _ _ _ _ (at-loop .loop .inv) (at-loop-test .loop-test .left)) (omega (arith, decimal-length (start .args .n)))
-
-same-length : tie.Need-same-length Inv-loop μ-loop
-same-length c = search needs
 
 returns : tie.Need-returns Inv-loop μ-loop
 returns c =
@@ -76,18 +49,12 @@ decimal-spec =
     Inv-loop
     μ-loop
     loop-holds
-    cast-digits
-    add-digits
-    array-write-digits
+    (λ c. search needs) (λ c. search needs) (λ c. search needs)
     sub-i
     loop-less
     loop-again
-    cast-digits-2
-    add-digits-2
-    array-write-digits-2
-    sub-text
-    part-text-start
+    (λ c. search needs) (λ c. search needs) (λ c. search needs) (λ c. search needs) (λ c. search needs)
     part-text-end
     text-requires
-    same-length
+    (λ c. search needs)
     returns)

@@ -1,50 +1,24 @@
 -- `listing::blocks::event_word` meets its contract.
 -- Assumes nothing.
-use borrow.Author.Tests.{eq-eqb, ne-eqb}
+use borrow.Author.Tests.{ne-eqb}
 use Rattle.listing.specs.Text.{eventWord}
 use borrow.Author.Needs.{needs}
 use Rattle.listing.proofs.blocks.event_word.Statement.{statement}
 use Rattle.listing.proofs.blocks.event_word.Tie as tie
 
-returns : tie.Need-returns
-unfolding eventWord
-returns c = rw (eq-eqb _ _ (c .before .before .before .before .before .if1 .taken)) (c .before .before .text .ensures)
-
-returns-2 : tie.Need-returns-2
-unfolding eventWord
-returns-2 c =
-    let at-text2 = c .before .before in
-    let at-if2 = at-text2 .before .before .before in
-    let at-if1 = at-if2 .before in
-    rw (ne-eqb _ _ (at-if1 .if1 .left), eq-eqb _ _ (at-if2 .if2 .taken)) (at-text2 .text2 .ensures)
-
-returns-3 : tie.Need-returns-3
-unfolding eventWord
-returns-3 c =
-    let at-text3 = c .before .before in
-    let at-if3 = at-text3 .before .before .before in
-    let at-if2 = at-if3 .before in
-    let at-if1 = at-if2 .before in
-    rw (ne-eqb _ _ (at-if1 .if1 .left), ne-eqb _ _ (at-if2 .if2 .left), eq-eqb _ _ (at-if3 .if3 .taken)) (at-text3 .text3 .ensures)
-
-returns-4 : tie.Need-returns-4
-unfolding eventWord
-returns-4 c =
-    let at-text4 = c .before .before in
-    let at-if3 = at-text4 .before .before .before in
-    let at-if2 = at-if3 .before in
-    let at-if1 = at-if2 .before in
-    rw (ne-eqb _ _ (at-if1 .if1 .left), ne-eqb _ _ (at-if2 .if2 .left), ne-eqb _ _ (at-if3 .if3 .left)) (at-text4 .text4 .ensures)
-
 pub event-word-spec : {M : Type 1} → statement M
+unfolding eventWord
 event-word-spec =
     tie.close
     (tie.spec
-    (λ c. search needs) (λ c κs. search needs) (λ c. search needs)
-    returns
-    (λ c. search needs) (λ c κs. search needs) (λ c. search needs)
-    returns-2
-    (λ c. search needs) (λ c κs. search needs) (λ c. search needs)
-    returns-3
-    (λ c. search needs) (λ c κs. search needs) (λ c. search needs)
-    returns-4)
+    (λ c. search needs) (λ c κs. search needs) (λ c. search needs) (λ c κs. search needs) (λ c. search needs)
+    (λ c κs. search needs) (λ c. search needs) (λ c κs. search needs) (λ c. search needs)
+    (λ c. let b = c .before .before in rw (b .before .before .before .match .keys1) (b .text .ensures))
+    (λ c. search needs)
+    (λ c. let b = c .before .before in rw (b .before .before .before .match .keys2) (b .text2 .ensures))
+    (λ c. search needs)
+    (λ c. let b = c .before .before in rw (b .before .before .before .match .keys3) (b .text3 .ensures))
+    (λ c. search needs)
+    (λ c. let b = c .before .before in
+    let z = b .before .before .before .match .rest in
+    rw (ne-eqb _ 0 (z .0 .0 .1), ne-eqb _ 1 (z .0 .1), ne-eqb _ 2 (z .1)) (b .text4 .ensures)))

@@ -29,21 +29,6 @@ abbrev μ-loop : tie.MeasureT-loop
 loop-holds : tie.Need-loop-holds Inv-loop μ-loop
 loop-holds c = record { position = omega arith; within = omega arith; kept = refl; bytes = paste-zero (now (c .args .out)) (c .args .at) (now (c .args .src)) }
 
-shared-slice-read-out : tie.Need-shared-slice-read-out Inv-loop μ-loop
-shared-slice-read-out c = search needs
-
-slice-write-out : tie.Need-slice-write-out Inv-loop μ-loop
-slice-write-out c = search needs
-
-add-o : tie.Need-add-o Inv-loop μ-loop
-add-o c = search needs
-
-add-i : tie.Need-add-i Inv-loop μ-loop
-add-i c = search needs
-
-loop-less : tie.Need-loop-less Inv-loop μ-loop
-loop-less c = search needs
-
 -- a turn: one more byte is copied
 turn : (out₀ : List ℕ) (at : ℕ) (src out : List ℕ) (i o : ℕ)
     → at + length src ≤ length out₀ → Copied out₀ at src out i o → i + 1 ≤ length src → Copied out₀ at src (set out o (getD src i 0)) (i + 1) (o + 1)
@@ -61,9 +46,6 @@ turn out₀ at src out i o room inv more = record {
 loop-again : tie.Need-loop-again Inv-loop μ-loop
 loop-again c = turn _ _ _ _ _ _ (c .before .before .before .pre) (c .before .before .loop .inv) (search needs)
 
-same-length : tie.Need-same-length Inv-loop μ-loop
-same-length c = search needs
-
 returns : tie.Need-returns Inv-loop μ-loop
 unfolding appended
 returns c =
@@ -76,4 +58,13 @@ returns c =
     }
 
 pub text-spec : {M : Type 1} → statement M
-text-spec = tie.close (tie.spec Inv-loop μ-loop loop-holds shared-slice-read-out slice-write-out add-o add-i loop-less loop-again same-length returns)
+text-spec =
+    tie.close
+    (tie.spec
+    Inv-loop
+    μ-loop
+    loop-holds
+    (λ c. search needs) (λ c. search needs) (λ c. search needs) (λ c. search needs) (λ c. search needs)
+    loop-again
+    (λ c. search needs)
+    returns)

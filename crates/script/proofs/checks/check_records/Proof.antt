@@ -19,23 +19,8 @@ loop-holds c = none-passed _
 check-record-requires : tie.Need-check-record-requires Inv-loop μ-loop
 check-record-requires c κs = (omega arith, c .before .loop .inv .before)
 
-enum-told : tie.Need-enum-told Inv-loop μ-loop
-enum-told c = search needs
-
-enum-known-checked : tie.Need-enum-known-checked Inv-loop μ-loop
-enum-known-checked c = search needs
-
 returns : tie.Need-returns Inv-loop μ-loop
 returns c = stops _ _ _ _ (c .before .before .before .before .before .loop .inv) (c .before .before .before .before .loop-test .taken) _ (c .before .before .before .check-record .ensures) _ (c .before .checked .given .1)
-
-instant-requires : tie.Need-instant-requires Inv-loop μ-loop
-instant-requires c κs = omega arith
-
-add-i : tie.Need-add-i Inv-loop μ-loop
-add-i c = omega arith
-
-loop-less : tie.Need-loop-less Inv-loop μ-loop
-loop-less c = omega arith
 
 loop-again : tie.Need-loop-again Inv-loop μ-loop
 loop-again c = passes _ _ _ _ (c .before .before .before .before .before .loop .inv) (c .before .before .before .before .loop-test .taken) _ (c .before .before .before .check-record .ensures) _ (c .before .enum-told .given .1) (c .instant .ensures)
@@ -51,11 +36,8 @@ check-records-spec =
     μ-loop
     loop-holds
     check-record-requires
-    enum-told
-    enum-known-checked
+    (λ c. search needs) (λ c. search needs)
     returns
-    instant-requires
-    add-i
-    loop-less
+    (λ c κs. omega arith) (λ c. omega arith) (λ c. omega arith)
     loop-again
     returns-2)

@@ -26,26 +26,11 @@ loop-holds c = begins _ _ _ _ (c .before .before .pre) refl
 bus-event-requires : tie.Need-bus-event-requires Inv-loop μ-loop
 bus-event-requires c κs = let t = c .before .before .loop .inv in omega arith
 
-step-requires : tie.Need-step-requires Inv-loop μ-loop
-step-requires c κs = search needs
-
-answer-byte-requires : tie.Need-answer-byte-requires Inv-loop μ-loop
-answer-byte-requires c κs = search needs
-
 slice-write-answers : tie.Need-slice-write-answers Inv-loop μ-loop
 slice-write-answers c = let t = c .before .before .before .before .before .before .loop .inv in omega arith
 
-enum-known-report : tie.Need-enum-known-report Inv-loop μ-loop
-enum-known-report c = search needs
-
 mul-records : tie.Need-mul-records Inv-loop μ-loop
 mul-records c = record { fits = omega arith }
-
-array-set-from-records : tie.Need-array-set-from-records Inv-loop μ-loop
-array-set-from-records c = search needs
-
-enum-told : tie.Need-enum-told Inv-loop μ-loop
-enum-told c = search needs
 
 add-i : tie.Need-add-i Inv-loop μ-loop
 add-i c =
@@ -83,13 +68,11 @@ events-spec =
     μ-loop
     loop-holds
     bus-event-requires
-    step-requires
-    answer-byte-requires
+    (λ c κs. search needs) (λ c κs. search needs)
     slice-write-answers
-    enum-known-report
+    (λ c. search needs)
     mul-records
-    array-set-from-records
-    enum-told
+    (λ c. search needs) (λ c. search needs)
     add-i
     loop-less
     loop-again

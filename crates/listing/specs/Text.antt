@@ -43,7 +43,7 @@ eventWord kind =
     else (83 ∷ 84 ∷ 79 ∷ 80 ∷ [])
 
 -- 'Script answers': the six bytes `DS3231`
-abbrev pub chipName : List ℕ
+abbrev chipName : List ℕ
 chipName = 68 ∷ 83 ∷ 51 ∷ 50 ∷ 51 ∷ 49 ∷ []
 
 -- 'Diagnostics': `UNDEFINED`, `READONLY`, `NOREGISTER`, `NOTMODELLED`
@@ -59,11 +59,11 @@ columnText none = 45 ∷ 45 ∷ []
 columnText (number n) = hexOf n
 
 -- `dropped,`
-abbrev pub droppedWord : List ℕ
+abbrev droppedWord : List ℕ
 droppedWord = 100 ∷ 114 ∷ 111 ∷ 112 ∷ 112 ∷ 101 ∷ 100 ∷ 44 ∷ []
 
 -- `refused,`
-abbrev pub refusedWord : List ℕ
+abbrev refusedWord : List ℕ
 refusedWord = 114 ∷ 101 ∷ 102 ∷ 117 ∷ 115 ∷ 101 ∷ 100 ∷ 44 ∷ []
 
 -- ---- lines
@@ -73,7 +73,7 @@ abbrev pub eventLine : (at kind value answer : ℕ) → List ℕ
 eventLine at kind value answer = decimalOf at ++ comma ++ eventWord kind ++ comma ++ hexOf value ++ comma ++ hexOf answer ++ lineEnd
 
 -- 'Script answers': `DS3231,1000300000,UNDEFINED,03,08`
-abbrev pub diagnosticText : ℕ → Line → List ℕ
+abbrev diagnosticText : ℕ → Line → List ℕ
 diagnosticText at l = chipName ++ comma ++ decimalOf at ++ comma ++ wordText (l .word) ++ comma ++ columnText (l .register) ++ comma ++ columnText (l .byte) ++ lineEnd
 
 abbrev pub diagnosticLine : I2cDiagnostic → List ℕ

@@ -11,7 +11,7 @@ eventLines s zero = []
 eventLines s (suc n) = eventLines s n ++ eventLine (instantOf s n) (kindOf s n) (valueOf s n) (answerAt s clockrunHeld n)
 
 -- 'Diagnostics': the records that wait, oldest first; 'Script answers': then the dropped count
-abbrev pub diagnosticsText : Held → List ℕ
+abbrev diagnosticsText : Held → List ℕ
 diagnosticsText h = diagnosticLines (take (h .chip .diagnostics .waiting) (h .store)) ++ droppedLine (h .chip .diagnostics .dropped)
 
 -- 'Script answers': what is printed for a script that ran

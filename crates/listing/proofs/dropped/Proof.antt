@@ -7,9 +7,6 @@ use borrow.Author.Needs.{needs}
 use Rattle.listing.proofs.dropped.Statement.{statement}
 use Rattle.listing.proofs.dropped.Tie as tie
 
-byte-requires : tie.Need-byte-requires
-byte-requires c κs = omega (arith, after-decimal)
-
 returns : tie.Need-returns
 returns c =
     let at-byte = c .before .before in
@@ -23,7 +20,6 @@ pub dropped-spec : {M : Type 1} → statement M
 dropped-spec =
     tie.close
     (tie.spec
-    (λ c. search needs) (λ c κs. search needs) (λ c κs. search needs)
-    byte-requires
+    (λ c. search needs) (λ c κs. search needs) (λ c κs. search needs) (λ c κs. omega (arith, after-decimal))
     (λ c. search needs)
     returns)

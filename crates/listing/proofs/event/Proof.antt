@@ -7,27 +7,6 @@ use borrow.Author.Needs.{needs}
 use Rattle.listing.proofs.event.Statement.{statement}
 use Rattle.listing.proofs.event.Tie as tie
 
-byte-requires : tie.Need-byte-requires
-byte-requires c κs = omega (arith, after-decimal, after-event-word)
-
-event-word-requires : tie.Need-event-word-requires
-event-word-requires c κs = omega (arith, after-decimal, after-event-word)
-
-byte-requires-2 : tie.Need-byte-requires-2
-byte-requires-2 c κs = omega (arith, after-decimal, after-event-word)
-
-hex-requires : tie.Need-hex-requires
-hex-requires c κs = omega (arith, after-decimal, after-event-word)
-
-byte-requires-3 : tie.Need-byte-requires-3
-byte-requires-3 c κs = omega (arith, after-decimal, after-event-word)
-
-hex-requires-2 : tie.Need-hex-requires-2
-hex-requires-2 c κs = omega (arith, after-decimal, after-event-word)
-
-byte-requires-4 : tie.Need-byte-requires-4
-byte-requires-4 c κs = omega (arith, after-decimal, after-event-word)
-
 returns : tie.Need-returns
 returns c =
     let at-byte4 = c .before .before in
@@ -49,13 +28,9 @@ pub event-spec : {M : Type 1} → statement M
 event-spec =
     tie.close
     (tie.spec
-    (λ c κs. search needs)
-    byte-requires
-    event-word-requires
-    byte-requires-2
-    hex-requires
-    byte-requires-3
-    hex-requires-2
-    byte-requires-4
+    (λ c κs. search needs) (λ c κs. omega (arith, after-decimal, after-event-word))
+    (λ c κs. omega (arith, after-decimal, after-event-word)) (λ c κs. omega (arith, after-decimal, after-event-word))
+    (λ c κs. omega (arith, after-decimal, after-event-word)) (λ c κs. omega (arith, after-decimal, after-event-word))
+    (λ c κs. omega (arith, after-decimal, after-event-word)) (λ c κs. omega (arith, after-decimal, after-event-word))
     (λ c. search needs)
     returns)

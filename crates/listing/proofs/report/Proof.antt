@@ -8,21 +8,6 @@ use borrow.Author.Needs.{needs}
 use Rattle.listing.proofs.report.Statement.{statement}
 use Rattle.listing.proofs.report.Tie as tie
 
-byte-requires : tie.Need-byte-requires
-byte-requires c κs = omega (arith, after-decimal, after-report-word, after-columns)
-
-report-word-requires : tie.Need-report-word-requires
-report-word-requires c κs = omega (arith, after-decimal, after-report-word, after-columns)
-
-byte-requires-2 : tie.Need-byte-requires-2
-byte-requires-2 c κs = omega (arith, after-decimal, after-report-word, after-columns)
-
-columns-requires : tie.Need-columns-requires
-columns-requires c κs = omega (arith, after-decimal, after-report-word, after-columns)
-
-byte-requires-3 : tie.Need-byte-requires-3
-byte-requires-3 c κs = omega (arith, after-decimal, after-report-word, after-columns)
-
 returns : tie.Need-returns
 returns c =
     let at-byte3 = c .before .before in
@@ -44,10 +29,9 @@ report-spec =
     tie.close
     (tie.spec
     (λ c. search needs) (λ c κs. search needs) (λ c κs. search needs)
-    byte-requires
-    report-word-requires
-    byte-requires-2
-    columns-requires
-    byte-requires-3
-    (λ c. search needs)
+    (λ c κs. omega (arith, after-decimal, after-report-word, after-columns))
+    (λ c κs. omega (arith, after-decimal, after-report-word, after-columns))
+    (λ c κs. omega (arith, after-decimal, after-report-word, after-columns))
+    (λ c κs. omega (arith, after-decimal, after-report-word, after-columns))
+    (λ c κs. omega (arith, after-decimal, after-report-word, after-columns)) (λ c. search needs)
     returns)

@@ -7,7 +7,6 @@ use mathlib.Core.Path.{_≡_, refl, sym, ap, ap₂, _∙_, subst}
 use native.Mathlib.Omega.{arith}
 use borrow.Author.Tests.{le-leb, le-ltb}
 use lib.Dec.{leb, lit<}
-use lib.IntN.{pos}
 use lib.ListN.{replicate, getD}
 use Rattle.refusals.specs.Numbered.{accepted, refused}
 use Rattle.computed.specs.Choice.{if_then_else_}
@@ -21,7 +20,7 @@ use Rattle.diagnostics.specs.declared.ChipName.the-variants.{Ds3231}
 use Rattle.diagnostics.specs.declared.I2cDiagnostic.{I2cDiagnostic}
 use Rattle.diagnostics.specs.declared.I2cDiagnosticKind.the-variants.{ReadOnly}
 use Rattle.ds3231.specs.Numbers.{nanos, range, day}
-use Rattle.ds3231.specs.Calls.{inQuarters, checkedQuarters, chipOn, powerOn, replied, Call, bus, taking, lentStore, tooShort, verdict}
+use Rattle.ds3231.specs.Calls.{inQuarters, checkedQuarters, chipOn, defaultConfig, powerOn, replied, Call, bus, taking, lentStore, tooShort, verdict}
 use Rattle.ds3231.specs.Model.{reads, Model, exact, dateWith, clamped, offsetWith, wraps, modelOn}
 use Rattle.ds3231.proofs.Follows.{offset-same, offset-gives}
 use Rattle.ds3231.specs.Exact.{events, fullyLent, modelAfter, after, TimeRead, answerTo}
@@ -40,7 +39,7 @@ use lib.ListN.{length}
 -- ---- the calls
 
 pub config : Ds3231Config
-config = record { start = dateTime 2026 1 1 0 0 0; «oscillator_stopped» = false; «temperature_quarters» = pos 100 }
+config = defaultConfig
 
 -- a store of 256 records
 pub store : List I2cDiagnostic

@@ -17,7 +17,7 @@ use Rattle.listing.specs.Appended.{Appended, recordOf}
 use Rattle.listing.specs.Text.{refusedLine}
 use Rattle.script.specs.ByValue.{refusalOf}
 use Rattle.script.specs.Records.{recordsIn, checkedLength, checkedFrom, checkedScript}
-use Rattle.script.specs.Runs.{Held, heldAt, answersTo, clockrunHeld, runNumbered, checkedRun, runVerdict, Ran}
+use Rattle.script.specs.Runs.{heldAt, answersTo, clockrunHeld, runNumbered, checkedRun, runVerdict, Ran}
 use Rattle.script.specs.declared.numbers.Refusal.{Refusal}
 use Rattle.script.specs.declared.runs.RunAnswer.{RunAnswer}
 use Rattle.script.proofs.Laws.{accepted-length, accepted-legal}

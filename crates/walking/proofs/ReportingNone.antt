@@ -4,21 +4,17 @@
 --     reporting        so the call meets its contract, where f meets its own
 -- The locals stay at the head of the context. Those after the further parameters', local j of 3 at 2 · (2 − j); what the further parameters hold, at 6; the store's, the chip's and the result's, at 7, 9 and 11. The borrows stand behind them, from 13 on.
 -- Assumes nothing.
-use Rattle.walking.proofs.Walk.{_≡_, refl, ℕ, [], _∷_, List, length, URA, named, w64, Val, vint, vptr, SProp, ent, emp, id⊢, ftrue, flft, Heap, Env, Calls, Loops, WpFn, Tables, Atoms, Given, ‵, _⊛_, Sq, runs, atRet, _$_, _∵_, !, qed, by, move, keep, split3, fsplit, look, look-raw, store-raw, init, forget, stop, hop, fld, from, load, of-opd, and-then, assigns, land, returns, params1, pass1, whole, sub, look-in, FmC, fmOf, owns, Is, MutRef, MutSlice, Triple, Meets, Asked, calls-data, ref-open, ref-shut, void, has, Locs, envAt, framed, back, sink, rest, addr, agg, no-more}
+use Rattle.walking.proofs.Walk.{_≡_, refl, ℕ, [], _∷_, List, length, URA, named, w64, Val, vint, vptr, SProp, ent, emp, id⊢, ftrue, flft, Heap, Env, Calls, Loops, WpFn, Tables, Atoms, Given, ‵, _⊛_, Sq, runs, atRet, _$_, _∵_, !, qed, by, move, keep, split3, fsplit, look, look-raw, store-raw, init, forget, stop, hop, fld, from, load, of-opd, and-then, assigns, land, returns, params1, pass1, whole, sub, look-in, FmC, fmOf, owns, Is, MutRef, MutSlice, Triple, Meets, Asked, calls-data, ref-open, ref-shut, void, has, Locs, envAt, framed, back, sink, rest}
 use mathlib.Core.List.{_++_}
-use mir.Syntax.{Name, Fn, Local, local, valueLocal, mut, tyInt, tyRef, deref, field, place, copy, seq, assign, return, call, rvOpd, erased, tyUnit, addrOf, aggregate}
-use mir.Val.{vunit}
+use mir.Syntax.{Name, Fn, Local, local, valueLocal, tyInt, deref, field, place, copy, seq, assign, return, call, rvOpd}
 use prog.Wp.{spotOf}
 use types.Run.{free1, free0}
-use denote.Memory.{pointee}
 use denote.RattleType.{RattleType}
-use denote.Slice.{sliceTy}
 use denote.Triple.Clauses.{closing}
 use Rattle.walking.proofs.Data.{Data}
 use Rattle.walking.proofs.One.{One, row}
 use Rattle.walking.proofs.Outcome.{Outcomes, OutLaws, out-ty, out-row, out-data}
 use Rattle.walking.proofs.Lending as L
-use Rattle.walking.proofs.Report.{Does, report-ended, reports, calls-report}
 use Rattle.walking.proofs.Extras.{Extra, rows, Values, locals, holds, later, copies, at, enters-with, passes-all, reads-all, frees-all}
 
 module _ (chip answer note : One) (es : List Extra) (out : Outcomes chip answer []) where

@@ -54,4 +54,4 @@ stored-length n d s = by (ltb (n .waiting) 256)
 
 pub stored-all-length : (ds : List I2cDiagnostic) (n : Diagnostics) (s : List I2cDiagnostic) → length (storedAll ds n s) ≡ length s
 stored-all-length [] n s = refl
-stored-all-length (d ∷ ds) n s = stored-all-length ds (counted n) (stored n d s) ∙ stored-length n d s
+stored-all-length (d ∷ ds) n s = stored-all-length ds _ (stored n d s) ∙ stored-length n d s

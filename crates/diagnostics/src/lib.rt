@@ -119,7 +119,8 @@ pub fn report(
     out.answer
 }
 
-// Writes a record into a lent store, if there is one and the store has its place. No other function writes a lent record.
+// Writes a report's record into a lent store, if there is one and the store has its place. No other function puts a report
+// into a lent store.
 pub fn post(store: &mut [I2cDiagnostic], posting: Posting)
     ensures { λ _. ⌜ now (store .exit) ≡ posted posting (now (store .entry)) ⌝ }
 {

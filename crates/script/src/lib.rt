@@ -23,6 +23,9 @@ pub use runs::run_values;
 // The bytes of a record.
 pub const RECORD: usize = 16;
 
+// The most records of a script.
+pub const MAX_RECORDS: usize = 2_048;
+
 // What is wrong with a script. Of a record, with its number.
 pub enum ScriptFault {
     // Over 32,768 bytes.

@@ -19,8 +19,8 @@ pub(crate) fn fault_refusal(fault: ScriptFault) -> Refusal
     ensures { λ r. ⌜ r ≡ refusalOf (faultNumbered fault) ⌝ }
 {
     match fault {
-        ScriptFault::TooLong => whole(14),
-        ScriptFault::NotWhole => whole(13),
+        ScriptFault::TooLong => of_no_record(14),
+        ScriptFault::NotWhole => of_no_record(13),
         ScriptFault::Kind(record) => of_record(16, record),
         ScriptFault::Value(record) => of_record(17, record),
         ScriptFault::Padding(record) => of_record(18, record),
@@ -33,16 +33,16 @@ pub fn run_refusal(answer: RunAnswer) -> Refusal
     ensures { λ r. ⌜ r ≡ refusalOf (runNumbered answer) ⌝ }
 {
     match answer {
-        RunAnswer::Done => whole(0),
-        RunAnswer::NotSound => whole(10),
-        RunAnswer::StoreLength => whole(11),
-        RunAnswer::AnswersLength => whole(15),
+        RunAnswer::Done => of_no_record(0),
+        RunAnswer::NotSound => of_no_record(10),
+        RunAnswer::StoreLength => of_no_record(11),
+        RunAnswer::AnswersLength => of_no_record(15),
         RunAnswer::Script(fault) => fault_refusal(fault),
     }
 }
 
 // A refusal about no record.
-fn whole(number: u8) -> Refusal
+fn of_no_record(number: u8) -> Refusal
     ensures { λ r. ⌜ r ≡ record { number = number; «has_record» = false; «record» = 0 } ⌝ }
 {
     Refusal {

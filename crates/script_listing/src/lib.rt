@@ -18,15 +18,13 @@ use listing::dropped_line;
 use listing::event_line;
 use listing::header;
 use listing::refused_line;
+use script::MAX_RECORDS;
 use script::RECORD;
 use script::RunAnswer;
 use script::RunOutcome;
 use script::record_at;
 use script::run_from_power_on;
 use script::run_refusal;
-
-// The most records of a script.
-const MAX_RECORDS: usize = 2_048;
 
 // Room for every line of a script: the header, the events, the diagnostics and the dropped count.
 pub const LISTING: usize = LINE * (1 + MAX_RECORDS + MAX_DIAGNOSTICS + 1);

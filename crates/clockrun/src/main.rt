@@ -1,48 +1,47 @@
 // Reads a script from standard input, runs it from power-on and prints its listing, or why it is refused.
-// An input that cannot be read prints nothing to standard output and a message to standard error.
-use libc::STDIN_FILENO;
-use libc::STDOUT_FILENO;
+// An input that cannot be read, an output that cannot be written and an argument each get a line on standard error.
+use libc::STDERR_FILENO;
+use script_listing::INPUT;
 use script_listing::LISTING;
-use script_listing::listing;
+use script_listing::input_listing;
 use script_listing::within;
-
-// What was read: so many bytes, or an error.
-enum Input {
-    Read(usize),
-    Failed,
-}
+use streams::Transfer;
+use streams::read_input;
+use streams::write_output;
 
 fn main() {
-    // One byte more than a script may have, so that a longer input is refused.
-    let mut input = [0u8; 32_769];
-    match read(&mut input) {
-        Input::Read(n) => print(&input, n),
-        Input::Failed => os::fail(b"standard input"),
+    if os::arg_count() > 1 {
+        usage();
+        return;
+    }
+    let mut input = [0u8; INPUT];
+    match read_input(&mut input) {
+        Transfer::Whole => print(input, INPUT),
+        Transfer::Stopped { count, answer } => {
+            if answer < 0 {
+                os::fail(b"standard input");
+            } else {
+                print(input, count);
+            }
+        }
     }
 }
 
-// Reads until `input` is full or the input ends.
-fn read(input: &mut [u8]) -> Input {
-    let mut n = 0;
-    while n < input.len() {
-        let got = libc::read(STDIN_FILENO, &mut input[n..]);
-        if got < 0 {
-            return Input::Failed;
-        }
-        let more = io::count(got, &input[n..]);
-        if more == 0 {
-            return Input::Read(n);
-        }
-        n += more;
-    }
-    Input::Read(n)
+// How it is used.
+fn usage() {
+    io::write_all(
+        STDERR_FILENO,
+        b"usage: clockrun <SCRIPT >LISTING (it takes no argument)\n",
+    );
 }
 
-// Prints the listing of the first `n` bytes.
-fn print(input: &[u8], n: usize) {
+// Prints the listing of an input by the first `n` bytes that were read of it.
+fn print(input: [u8; INPUT], n: usize) {
     let mut out = [0u8; LISTING];
-    let n = within(n, input);
-    let k = listing(&input[..n], &mut out);
-    let k = within(k, &out);
-    io::write_all(STDOUT_FILENO, &out[..k]);
+    let length = input_listing(input, n, &mut out);
+    let length = within(length, &out);
+    match write_output(&out[..length]) {
+        Transfer::Whole => {}
+        Transfer::Stopped { .. } => os::fail(b"standard output"),
+    }
 }

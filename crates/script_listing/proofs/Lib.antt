@@ -1,3 +1,4 @@
 pub mod Events
 pub mod Legal
 pub mod Whole
+pub mod Input

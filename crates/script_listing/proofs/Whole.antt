@@ -16,7 +16,7 @@ use Rattle.listing.proofs.Lines.{header-length, first-lines-length}
 use Rattle.script.specs.Records.{recordsIn}
 use Rattle.script.specs.Runs.{heldAt, clockrunHeld}
 use Rattle.script.specs.declared.runs.RunOutcome.{RunOutcome}
-use Rattle.script_listing.specs.Listing.{eventLines, ranListing, listingOf}
+use Rattle.script_listing.specs.Listing.{eventLines, ranListing, listingOf, Printed}
 use Rattle.script_listing.proofs.Events.{events-length}
 
 -- the header leaves room for the events
@@ -42,10 +42,6 @@ module _ (s : List ℕ) (e : RunOutcome) {out out₁ out₂ out₃ out₄ : List
       rw (← held) (also (omega arith) (also (omega arith) f events) (also (omega arith) w d))
 
 -- ---- the listing, by the room
-
--- what `listing` promises of a text
-abbrev Printed : (text out out′ : List ℕ) (r : ℕ) → Type 0
-Printed text out out′ r = (r ≡ (if leb 110688 (length out) then length text else 0)) × (out′ ≡ (if leb 110688 (length out) then text ++ drop (length text) out else out))
 
 pub no-room : (s out : List ℕ) → length out < 110688 → Printed (listingOf s) out out 0
 no-room s out h = let e = lt-leb 110688 (length out) h in (rw e, rw e)

@@ -1,16 +1,13 @@
 // What `clockrun` prints for a script, whole, made in a lent slice of bytes.
 // To read it: `specs/Listing.antt` has the listing of a script, or the line of its refusal; the lines are `listing`'s.
-ghost use mathlib.Core.List.{_++_};
 ghost use mathlib.Core.Path.{_≡_};
 ghost use Prim.Native.Nat.{_+_, _*_, _/_, _≤_, min};
-ghost use lib.Dec.{leb};
-ghost use lib.ListN.{length, drop};
-ghost use Rattle.computed.specs.Choice.{if_then_else_};
+ghost use lib.ListN.{length};
 ghost use Rattle.io.specs.Counts.{Counts};
 ghost use Rattle.listing.specs.Appended.{Appended};
 ghost use Rattle.script.specs.Records.{recordsIn};
 ghost use Rattle.script.specs.Runs.{heldAt, answersTo, clockrunHeld};
-ghost use Rattle.script_listing.specs.Listing.{eventLines, ranListing, listingOf};
+ghost use Rattle.script_listing.specs.Listing.{eventLines, ranListing, listingOf, Printed, ListedInput};
 use diagnostics::MAX_DIAGNOSTICS;
 use listing::LINE;
 use listing::diagnostic_lines;
@@ -29,11 +26,13 @@ use script::run_refusal;
 // Room for every line of a script: the header, the events, the diagnostics and the dropped count.
 pub const LISTING: usize = LINE * (1 + MAX_RECORDS + MAX_DIAGNOSTICS + 1);
 
+// How much of an input tells its listing: a byte more than a script may have, which refuses all longer ones.
+pub const INPUT: usize = RECORD * MAX_RECORDS + 1;
+
 // The text of a script, in front of what stood behind it, where there is room for any script's: else nothing. The answers
 // stand in the first bytes of a local array.
 pub fn listing(script: &[u8], out: &mut [u8]) -> usize
-    ensures { λ r. ⌜ r ≡ (if leb 110688 (length (now (out .entry))) then length (listingOf (now (script .entry))) else 0) ⌝ }
-    ensures { λ r. ⌜ now (out .exit) ≡ (if leb 110688 (length (now (out .entry))) then listingOf (now (script .entry)) ++ drop (length (listingOf (now (script .entry)))) (now (out .entry)) else now (out .entry)) ⌝ }
+    ensures { λ r. ⌜ Printed (listingOf (now (script .entry))) (now (out .entry)) (now (out .exit)) r ⌝ }
 {
     if out.len() < LISTING {
         return 0;
@@ -41,6 +40,14 @@ pub fn listing(script: &[u8], out: &mut [u8]) -> usize
     let mut space = [0u8; MAX_RECORDS];
     let n = answers_of(script.len());
     listed(script, &mut space[..n], out)
+}
+
+// The listing of an input that was read into `input`, its first `n` bytes: all of the input, or as much as `input` holds.
+pub fn input_listing(input: [u8; INPUT], n: usize, out: &mut [u8]) -> usize
+    ensures { λ r. ⌜ ListedInput input n (now (out .entry)) (now (out .exit)) r ⌝ }
+{
+    let n = within(n, &input);
+    listing(&input[..n], out)
 }
 
 // How many answers a script of `len` bytes has, if it is not too long.

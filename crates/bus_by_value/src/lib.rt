@@ -1,11 +1,12 @@
 // The lent calls on values, for programs: each function lends the chip and the store that it is passed to the call, and
 // gives back what the call left in them.
-// To read it: each contract is that of the call in `ds3231_bus`, on the values before and after. The structs hold what is
-// lent and what comes back.
+// To read it: each contract is that of the call in `ds3231_bus`, `diagnostics` or `script`, on the values before and after. The
+// structs hold what is lent and what comes back.
 ghost use Rattle.ds3231.specs.declared.Event.the-variants.{Start, Write, Read, Stop};
 ghost use Rattle.diagnostics.specs.Reports.{report as reportOf};
 ghost use Rattle.diagnostics.specs.Lent.{ReportedTo};
 ghost use Rattle.ds3231_bus.specs.Answers.{Called, Took};
+ghost use Rattle.script.specs.Runs.{Ran};
 use diagnostics::Diagnostics;
 use diagnostics::I2cDiagnostic;
 use diagnostics::I2cDiagnosticKind;
@@ -19,6 +20,8 @@ use ds3231_bus::read;
 use ds3231_bus::stop;
 use ds3231_bus::take_diagnostics;
 use ds3231_bus::write;
+use script::RunOutcome;
+use script::run;
 
 // What a bus call is passed beside chip and store: the address or the byte, the read bit or the acknowledge, the instant.
 pub struct Values {
@@ -175,5 +178,24 @@ pub fn report_on(reporting: Reporting, values: ReportValues) -> Reporting
         counts,
         store,
         answer,
+    }
+}
+
+// The run of a script on a chip and a store of 256 records.
+pub fn run_on(
+    chip: Ds3231,
+    store: [I2cDiagnostic; 256],
+    script: &[u8],
+    answers: &mut [u8],
+) -> RunOutcome
+    ensures { λ r. ⌜ Ran (record { chip = chip; store = store }) (now (script .entry)) (now (answers .entry)) (r .answer) (r .chip) (r .records) (now (answers .exit)) ⌝ }
+{
+    let mut chip = chip;
+    let mut store = store;
+    let answer = run(&mut chip, &mut store, script, answers);
+    RunOutcome {
+        chip,
+        answer,
+        records: store,
     }
 }

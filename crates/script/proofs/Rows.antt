@@ -3,7 +3,7 @@
 use Prim.Native.Nat.{ℕ}
 use mathlib.Core.Bool.{Bool, true, false, cond}
 use mathlib.Core.List.{List, [], _∷_, map}
-use mathlib.Core.Path.{_≡_, refl, _∙_, ap, subst}
+use mathlib.Core.Path.{_≡_, refl, sym, _∙_, ap, subst}
 use lib.Dec.{eqb}
 use lib.ListN.{length}
 use mir.Val.{Val, vstruct, vnil, vcons}
@@ -11,7 +11,7 @@ use denote.Array.{Array, arrayVal}
 use denote.Laws.{Is}
 use denote.Struct.Laws as LL
 use Rattle.computed.specs.Choice.{if_then_else_}
-use Rattle.walking.proofs.Data.{Data, of-struct, of-enum, from-field, field-val}
+use Rattle.walking.proofs.Data.{Data, of-struct, of-enum, from-field, to-field, field-val}
 use Rattle.walking.proofs.One.{One, one-of}
 use Rattle.walking.proofs.Run.{Runs, RunLaws, Shows}
 use Rattle.diagnostics.specs.declared.I2cDiagnostic.{I2cDiagnostic}
@@ -50,6 +50,7 @@ outcome = record {
   chip-in = λ r. r .chip;
   answer-in = λ r. r .answer;
   records-in = λ r. r .records;
+  make = λ c a zs. record { chip = c; answer = a; records = zs };
 }
 
 -- the outcome's machine value, with the records' as an array of records has it
@@ -68,6 +69,8 @@ laws = record {
   chip-is = λ r is. LL.owed O.the-type O′.the-laws r _ is .0;
   answer-is = λ r is. LL.owed O.the-type O′.the-laws r _ is .1 .0;
   records-is = λ r is. subst (λ (us : List Val). Is (Array D.the-row 256) (r .records) (arrayVal us ∷ [])) (field-val D.the-type D′.the-laws (r .records)) (from-field D.the-type 256 (r .records) _ (LL.owed O.the-type O′.the-laws r _ is .1 .1 .0));
+  made-is = λ c a zs is-c is-a is-z. subst (λ (vs : List Val). Is O.the-row (outcome .make c a zs) vs) (val-is (outcome .make c a zs))
+      (LL.owes O.the-type O′.the-laws (outcome .make c a zs) (is-c, (is-a, (to-field D.the-type 256 zs _ (subst (λ (us : List Val). Is (Array D.the-row 256) zs (arrayVal us ∷ [])) (sym (field-val D.the-type D′.the-laws zs)) is-z), tt))));
 }
 
 -- what `run` promises

@@ -20,3 +20,4 @@ pub mod Taking
 pub mod TakingFace
 pub mod Arrays
 pub mod Run
+pub mod RunFace

@@ -59,6 +59,7 @@ pub record Runs (chip answer note : One) : Type 2 where
   pub chip-in : Denot → chip .Denot
   pub answer-in : Denot → answer .Denot
   pub records-in : Denot → List (note .Denot)
+  pub make : chip .Denot → answer .Denot → List (note .Denot) → Denot
 
 module _ (chip answer note : One) (run : Runs chip answer note) (k : ℕ) where
   abbrev pub run-ty : Ty
@@ -68,8 +69,11 @@ module _ (chip answer note : One) (run : Runs chip answer note) (k : ℕ) where
   run-row = record { Denot = run .Denot; mir = run-ty ∷ []; written = run .written; reaches = run .reaches; own = run .own; exit = run .exit; coded = run .coded }
 
   module _ (dc : Data (row chip)) (da : Data (row answer)) (dn : Data (row note)) where
+    abbrev pub run-of : chip .Denot → answer .Denot → List (note .Denot) → Val
+    run-of c a zs = vstruct (vcons (dc .val c) (vcons (da .val a) (vcons (of-array (row note) dn k .val zs) vnil)))
+
     abbrev pub run-val : run .Denot → Val
-    run-val r = vstruct (vcons (dc .val (run .chip-in r)) (vcons (da .val (run .answer-in r)) (vcons (of-array (row note) dn k .val (run .records-in r)) vnil)))
+    run-val r = run-of (run .chip-in r) (run .answer-in r) (run .records-in r)
 
     pub record RunLaws : Type 2 where
       pub tells : Tells run-row (Is run-row) (λ r. run-val r ∷ [])
@@ -79,6 +83,7 @@ module _ (chip answer note : One) (run : Runs chip answer note) (k : ℕ) where
       pub chip-is : (r : run .Denot) → Is run-row r (run-val r ∷ []) → Is (row chip) (run .chip-in r) (dc .val (run .chip-in r) ∷ [])
       pub answer-is : (r : run .Denot) → Is run-row r (run-val r ∷ []) → Is (row answer) (run .answer-in r) (da .val (run .answer-in r) ∷ [])
       pub records-is : (r : run .Denot) → Is run-row r (run-val r ∷ []) → Is (Array (row note) k) (run .records-in r) (of-array (row note) dn k .val (run .records-in r) ∷ [])
+      pub made-is : (c : chip .Denot) (a : answer .Denot) (zs : List (note .Denot)) → Is (row chip) c (dc .val c ∷ []) → Is (row answer) a (da .val a ∷ []) → Is (Array (row note) k) zs (of-array (row note) dn k .val zs ∷ []) → Is run-row (run .make c a zs) (run-of c a zs ∷ [])
 
     abbrev pub run-data : RunLaws → Data run-row
     run-data lo = record { val = run-val; tells = lo .tells; lawful = lo .lawful; makes = lo .makes; copy = lo .copy }

@@ -1,6 +1,6 @@
 -- The walk of a function of a chip behind a `&mut`, a store of notes behind a `&mut [..]`, a script behind a `&[u8]` and answers behind a `&mut [u8]`, which copies the chip out, loads the store into a local array of k notes, calls a covered function f at the chip, the store's length, the array, the script and the answers, stores the chip, and saves the outcome's notes in the store.
 -- There is no branch: a covered function says how many notes are loaded and saved, which is k where the store has k notes, and else none.
---     Runs, RunLaws    a struct of a chip, an answer and an array of k notes, as a row, and what the walk uses of it
+--     Runs, RunLaws    a struct of a chip, an answer and an array of k notes, as a row, and what this walk and that of `RunFace.antt` use of it
 --     code             the MIR of such a function, at the names of the three callees: fw, which counts the notes, fb, which makes the note that fills the array, and f. For notes of any size
 --     Makings, Claims  a predicate of a chip, the store's length, the k notes, the script, the answers at entry, the outcome and the answers at exit; a claim of the entry, the answer and the exit
 --     asks-whole       fw's contract: of a length m it ensures that its result is `cond (eqb m k) k 0`, with Bool's `cond`, here `choose`

@@ -1,12 +1,13 @@
 -- The by-value face of a function that `Run.antt` walks: it copies the chip and a store of k notes into locals, lends both to the function f, passes it the script and the answers that it was lent itself, and makes a struct of the chip, the answer and the notes. A caller of the face is covered, and needs no walk.
 --     code             the MIR of such a function, at the callee's name f, for any k. A function's own `code.function` is this, by conversion
---     says-so          the face's contract, at a claim of what was passed, of the struct returned and of the answers at exit
---     faces            so the face meets its contract, where f meets `Run.antt`'s `does`, and f's claim shows the face's
+--     Tells-of, says-so    what the face ensures, of what was passed, of the struct returned and of what was passed as it stands at exit;  its contract, which asks nothing
+--     Follows          that f's claim shows what the face ensures. A function names its own clause, so here a contract that does not follow is refused
+--     faces            so the face meets its contract, where f meets `Run.antt`'s `does`
 -- The struct is a `Runs` of `Run.antt`: a chip, an answer and k notes, in this order.
 -- The types are variables (`One.antt`), so what the walk costs does not depend on them. It says nothing of any crate.
 -- The locals stay at the head of the context, local i of 15 at 2 · (14 − i), and the borrows stand behind them, from 30 on. Where a local's cell is away, `emp` stands in its place.
 -- Assumes nothing.
-use Rattle.walking.proofs.Walk.{_≡_, refl, ℕ, _^_, [], _∷_, List, T, length, URA, fullShare, named, Val, vptr, SProp, ent, emp, via, fst∗, id⊢, GName, Lft, Share, ftrue, fat, flft, Heap, Env, WpFn, Calls, Loops, Tables, Atoms, fact, Given, Item, ‵, raw, some, _⊛_, ⋆, Sq, lands, atRet, _$_, _∵_, !, qed, by, move, keep, use1, pick, feqL, split, split3, group, join, fsplit, fjoin, suffices, frame, done, addr, look, init, stop, hop, fld, from, load, lit, of-opd, and-then, no-more, assigns, land, returns, params1, pass1, pass0, agg, whole, sub, look-in, FmC, fmOf, WpFn-mono, owns, Is, RefT, sliceVal, MutSlice, ShrSlice, Room, slice-vals, mut-slice-tells, shr-slice-tells, plain, owned, heard, nothing, onEntry, Triple, lasts, lft-new, lft-end, Meets, says, Stays, walkOf, ends-at, walked, walk-meets, yes, Asked, at-ref, RefOwn, SliceOwn, RowOwn, Content, void, away, has, Locs, envAt, framed, rest, enters, leaves, back, sink, lend-ref, back-ref, calls-with, lend-array, back-array, of-array}
+use Rattle.walking.proofs.Walk.{_≡_, refl, ℕ, _^_, [], _∷_, List, T, length, URA, fullShare, named, Val, vptr, SProp, ent, emp, via, fst∗, id⊢, GName, Lft, Share, ftrue, fat, flft, Heap, Env, WpFn, Calls, Loops, Tables, Atoms, fact, Given, Item, ‵, raw, some, _⊛_, ⋆, Sq, lands, atRet, _$_, _∵_, !, qed, by, move, keep, use0, use1, pick, feqL, split, split3, group, join, fsplit, fjoin, suffices, done, addr, look, init, stop, hop, fld, from, load, lit, of-opd, and-then, no-more, assigns, land, returns, params1, pass1, pass0, agg, whole, sub, look-in, FmC, fmOf, WpFn-mono, owns, Is, RefT, sliceVal, MutSlice, ShrSlice, Room, slice-vals, mut-slice-tells, shr-slice-tells, plain, owned, heard, nothing, onEntry, Triple, lasts, lft-new, lft-end, Meets, Stays, walkOf, ends-at, walked, walk-meets, yes, Asked, at-ref, RefOwn, SliceOwn, RowOwn, Content, void, away, has, Locs, envAt, framed, rest, enters, leaves, back, sink, lend-ref, back-ref, calls-with, lend-array, back-array, of-array}
 use lib.Dec.{ltb, lt→ltb}
 use mir.Syntax.{w8, w64, Name, Body, Fn, local, valueLocal, memorySlot, erased, imm, mut, tyInt, tyRef, tyArray, deref, field, place, copy, int, seq, assign, return, call, rvOpd, aggregate, addrOf}
 use base.Fml.{flent}
@@ -20,8 +21,8 @@ use denote.Lend.{Held}
 use denote.Ref.{now}
 use denote.Slice.{sliceTy, finally}
 use denote.Builtin.{u8, SliceRefOf, SliceRefMutOf}
-use denote.Triple.Entry.{alive}
-use denote.Triple.Clauses.{Ended, Clauses, closing, ensured}
+use denote.Triple.Entry.{Args, alive}
+use denote.Triple.Clauses.{Ended, Clauses, AtExit, atExit, closing, ensured}
 use denote.Triple.Walked.{stay-dropped, goes-dropped, gave-slice, goes-gave-slice}
 use Rattle.walking.proofs.Data.{Data}
 use Rattle.walking.proofs.Frame.{span}
@@ -62,16 +63,16 @@ module _ (chip answer note : One) (run : Runs chip answer note) (k : ℕ) (dc : 
     kept = (yes, (yes, (yes, (yes, tt))));
   }
 
-  -- a claim of the chip, the store, the script and the answers passed, of the struct returned, and of the answers at exit
-  abbrev pub Tells-of : Type 1
-  Tells-of = chip .Denot → List (note .Denot) → List ℕ → List ℕ → run .Denot → List ℕ → Type 0
+  abbrev pub Tells-of : {M : Type 1} → URA M → Type 2
+  Tells-of 𝓤 = (κs : Lfts 2) → Args (face-ended .signature) κs → run .Denot → AtExit face-ended κs → SProp 𝓤
 
-  abbrev pub says-so : {M : Type 1} (𝓤 : URA M) → Tells-of → Clauses 𝓤 face-ended
-  says-so 𝓤 Tell κs a = record { ghost = Unit {0}; requires = λ _. emp 𝓤; ensures = λ _ r e. fact 𝓤 (Tell (a .0) (a .1 .0) (now (a .1 .1 .0)) (now (a .1 .1 .1 .0)) r (now (e .1 .1 .1 .0))) }
+  abbrev pub says-so : {M : Type 1} (𝓤 : URA M) → Tells-of 𝓤 → Clauses 𝓤 face-ended
+  says-so 𝓤 Tell κs a = record { ghost = Unit {0}; requires = λ _. emp 𝓤; ensures = λ _ r e. Tell κs a r e }
 
-  -- how the face's claim follows from f's
-  abbrev pub Follows : Claims chip answer note → Tells-of → Type 0
-  Follows Said Tell = (h : chip .Denot) (ys : List (note .Denot)) (s a : List ℕ) (r : answer .Denot) (h′ : chip .Denot) (ys′ : List (note .Denot)) (a′ : List ℕ) → Said h ys s a r h′ ys′ a′ → Tell h ys s a (run .make h′ r ys′) a′
+  -- of what was passed, only the answers may have changed at exit: they are a′
+  abbrev pub Follows : {M : Type 1} (𝓤 : URA M) → Claims chip answer note → Tells-of 𝓤 → Type 1
+  Follows 𝓤 Said Tell = (κs : Lfts 2) (x : Args (face-ended .signature) κs) (r : answer .Denot) (h′ : chip .Denot) (ys′ : List (note .Denot)) (a′ : List ℕ)
+      → Said (x .0) (x .1 .0) (now (x .1 .1 .0)) (now (x .1 .1 .1 .0)) r h′ ys′ a′ → ent 𝓤 (emp 𝓤) (Tell κs x (run .make h′ r ys′) (atExit face-ended κs x (tt, (tt, (tt, (a′, tt))))))
 
   abbrev F : Ended
   F = self-ended chip answer note
@@ -93,7 +94,7 @@ module _ (chip answer note : One) (run : Runs chip answer note) (k : ℕ) (dc : 
   abbrev made-val : chip .Denot → answer .Denot → List (note .Denot) → Val
   made-val c r ys = run-of chip answer note run k dc da dn c r ys
 
-  module _ {M : Type 1} (𝓤 : URA M) (H : Heap 𝓤) (A : Atoms 𝓤) (W : Given 𝓤 H A) (f : Name) (Said : Claims chip answer note) (Tell : Tells-of) (shows : Follows Said Tell)
+  module _ {M : Type 1} (𝓤 : URA M) (H : Heap 𝓤) (A : Atoms 𝓤) (W : Given 𝓤 H A) (f : Name) (Said : Claims chip answer note) (Tell : Tells-of 𝓤) (shows : Follows 𝓤 Said Tell)
       (κ₂ κ₃ : Lft) (q₂ q₃ : Share) (h : chip .Denot) (ys : List (note .Denot)) (bc oc : ℕ) (γ₂ : GName) (ss : List ℕ) (bd od : ℕ) (γ₃ : GName) (zs : List ℕ)
       (is-h : Is (row chip) h (dc .val h ∷ [])) (is-y : Is (Array (row note) k) ys (dy .val ys ∷ [])) (room₂ : Room u8 (length ss)) (room₃ : Room u8 (length zs)) where
     abbrev sc : Val
@@ -111,15 +112,19 @@ module _ (chip answer note : One) (run : Runs chip answer note) (k : ℕ) (dc : 
     abbrev Post : Val → SProp 𝓤
     Post = walkOf 𝓤 H A face-ended stayed (says-so 𝓤 Tell) .post (((κ₂, (κ₃, tt)), (q₂, (q₃, tt)), tt, x, vs), tt)
 
+    -- what is to be ensured at exit
+    abbrev Told : run .Denot → List ℕ → SProp 𝓤
+    Told r zs′ = Tell (κ₂, (κ₃, tt)) x r (atExit face-ended (κ₂, (κ₃, tt)) x (tt, (tt, (tt, (zs′, tt)))))
+
     -- what is had at exit: the tokens of the script's and the answers' lifetimes, and the answers' last list
     abbrev Ends : List ℕ → List (Item 𝓤)
     Ends zs′ = ‵ (flft κ₂ q₂) ∷ ‵ (flft κ₃ q₃) ∷ ‵ (finally u8 γ₃ zs′) ∷ []
 
-    exits : (c : chip .Denot) (r : answer .Denot) (ys′ : List (note .Denot)) (zs′ : List ℕ) → length zs′ ≡ length zs → Tell h ys ss zs (run .make c r ys′) zs′ → Is R (run .make c r ys′) (made-val c r ys′ ∷ []) → ent 𝓤 (⋆ 𝓤 H A (Ends zs′)) (Post (made-val c r ys′))
+    exits : (c : chip .Denot) (r : answer .Denot) (ys′ : List (note .Denot)) (zs′ : List ℕ) → length zs′ ≡ length zs → ent 𝓤 (emp 𝓤) (Told (run .make c r ys′) zs′) → Is R (run .make c r ys′) (made-val c r ys′ ∷ []) → ent 𝓤 (⋆ 𝓤 H A (Ends zs′)) (Post (made-val c r ys′))
     exits c r ys′ zs′ l e is-m =
-        qed W (Ends zs′) ∵ suffices ! _ (ends-at 𝓤 H A face-ended stayed (says-so 𝓤 Tell) W (((κ₂, (κ₃, tt)), (q₂, (q₃, tt)), tt, x, vs), tt) (made-val c r ys′) (run .make c r ys′) (tt, (tt, (tt, (zs′, tt)))) (tt, (tt, (tt, (l, tt))))) $ says ! e $
-        nothing ! $ move ! (1 ∷ 2 ∷ 0 ∷ []) $ group ! 3 $ frame ! $ nothing ! $ move ! (1 ∷ 0 ∷ []) $ fjoin ! $ nothing ! $ fjoin ! $ nothing ! $ fjoin ! $ nothing ! $ fjoin ! $ frame ! $
-        owned ! R (Is R) (lo .makes 𝓤 H A W) (run .make c r ys′) _ is-m $ done !
+        qed W (Ends zs′) ∵ suffices ! _ (ends-at 𝓤 H A face-ended stayed (says-so 𝓤 Tell) W (((κ₂, (κ₃, tt)), (q₂, (q₃, tt)), tt, x, vs), tt) (made-val c r ys′) (run .make c r ys′) (tt, (tt, (tt, (zs′, tt)))) (tt, (tt, (tt, (l, tt))))) $
+        nothing ! $ move ! (1 ∷ 2 ∷ 0 ∷ []) $ group ! 3 $ nothing ! $ move ! (2 ∷ 0 ∷ []) $ fjoin ! $ nothing ! $ fjoin ! $ nothing ! $ fjoin ! $ nothing ! $ fjoin ! $
+        owned ! R (Is R) (lo .makes 𝓤 H A W) (run .make c r ys′) _ is-m $ move ! (2 ∷ 1 ∷ 0 ∷ []) $ group ! 3 $ use0 W (raw (Told (run .make c r ys′) zs′)) e $ move ! (1 ∷ 0 ∷ []) $ done !
 
     -- the call of f: what it is passed, and that the caller has what it asks
     module _ (ν ν′ : ℕ) where
@@ -156,7 +161,7 @@ module _ (chip answer note : One) (run : Runs chip answer note) (k : ℕ) (dc : 
         held c₀ c₁ c₂ c₃ cs = c₀ ∷ has (dc .val h) ∷ has (dy .val ys) ∷ has sc ∷ has sd ∷ c₁ ∷ c₂ ∷ c₃ ∷ has (vptr lc 0) ∷ has (vptr la 0) ∷ has (sliceVal (la, 0) k) ∷ has (vptr bd od) ∷ has sd ∷ cs
 
         -- the chip and the store have come back, and the struct is made
-        ends : (r : answer .Denot) (c : chip .Denot) (ys′ : List (note .Denot)) (zs′ : List ℕ) → Is (row answer) r (da .val r ∷ []) → Is (row chip) c (dc .val c ∷ []) → Is (Array (row note) k) ys′ (dy .val ys′ ∷ []) → length zs′ ≡ length zs → Tell h ys ss zs (run .make c r ys′) zs′
+        ends : (r : answer .Denot) (c : chip .Denot) (ys′ : List (note .Denot)) (zs′ : List ℕ) → Is (row answer) r (da .val r ∷ []) → Is (row chip) c (dc .val c ∷ []) → Is (Array (row note) k) ys′ (dy .val ys′ ∷ []) → length zs′ ≡ length zs → ent 𝓤 (emp 𝓤) (Told (run .make c r ys′) zs′)
             → Sq W (framed 𝓤 (code f .locals) bs (held void (has (dc .val c)) (has (dy .val ys′)) void []) (Ends zs′)) (lands C Λ En (place 7 []) (da .val r) (last f) (atRet En Post))
         ends r c ys′ zs′ is-r is-c is-z l e =
             let is-m : Is R (run .make c r ys′) (made-val c r ys′ ∷ []) = lo .made-is c r ys′ is-c is-r is-z in
@@ -185,7 +190,7 @@ module _ (chip answer note : One) (run : Runs chip answer note) (k : ℕ) (dc : 
             use1 W (‵ (fat fullShare (chip .ty) lc 0 (dc .val (ws .0)))) (W .laws .raw-at fullShare (chip .ty) lc 0 (dc .val (ws .0))) $ move ! (1 ∷ []) $
             use1 W (‵ (fat fullShare (tyArray (note .ty) k) la 0 (dy .val (ws .1 .0)))) (W .laws .raw-at fullShare (tyArray (note .ty) k) la 0 (dy .val (ws .1 .0))) $
             keep ! (span 8 16 (0 ∷ 25 ∷ 1 ∷ span 27 11 (2 ∷ 3 ∷ 5 ∷ []))) $
-            ends r (ws .0) (ws .1 .0) (ws .1 .1 .1 .0) is-r is-c is-z l (shows h ys ss zs r (ws .0) (ws .1 .0) (ws .1 .1 .1 .0) did)))))))
+            ends r (ws .0) (ws .1 .0) (ws .1 .1 .1 .0) is-r is-c is-z l (shows (κ₂, (κ₃, tt)) x r (ws .0) (ws .1 .0) (ws .1 .1 .1 .0) did)))))))
 
       walk : ent 𝓤 (onEntry 𝓤 H A (face-ended .signature) (κ₂, (κ₃, tt)) (q₂, (q₃, tt)) x vs) (WpFn 𝓤 H C Λ (code f) (dc .val h ∷ dy .val ys ∷ sc ∷ sd ∷ []) Post)
       walk =
@@ -214,7 +219,7 @@ module _ (chip answer note : One) (run : Runs chip answer note) (k : ℕ) (dc : 
           (and-then ! (load ! (from ! (stop !)) (look ! 13 refl)) (and-then ! (load ! (from ! (stop !)) (look ! 9 refl)) (and-then ! (load ! (from ! (stop !)) (look ! 23 refl)) (and-then ! (load ! (from ! (stop !)) (look ! 5 refl)) (no-more !))))) (λ r is-r.
           comes bs ν ν′ γ γ′ r is-r))))))
 
-  pub faces : {M : Type 1} (𝓤 : URA M) (H : Heap 𝓤) (A : Atoms 𝓤) → Given 𝓤 H A → (f : Name) (Said : Claims chip answer note) (Tell : Tells-of) → Follows Said Tell
+  pub faces : {M : Type 1} (𝓤 : URA M) (H : Heap 𝓤) (A : Atoms 𝓤) → Given 𝓤 H A → (f : Name) (Said : Claims chip answer note) (Tell : Tells-of 𝓤) → Follows 𝓤 Said Tell
       → (𝓣 : Tables 𝓤 H) → Triple 𝓤 (𝓣 .C f) (Asked 𝓤 H A F (does chip answer note 𝓤 Said)) → Meets 𝓤 H A (face-ended .signature) (WpFn 𝓤 H (𝓣 .C) (𝓣 .Λ) (code f)) (closing 𝓤 H A face-ended (says-so 𝓤 Tell))
   faces 𝓤 H A W f Said Tell shows 𝓣 known =
       walk-meets 𝓤 H A face-ended stayed W

@@ -1,6 +1,8 @@
 -- `bus_by_value::run_on` meets its contract: the walk of `RunFace.antt`, at `run`.
 -- Assumes nothing.
 use lib.Dec.{lit<}
+use base.Logic.{emp}
+use contract.Monad.{factI}
 use contract.Running.{givenOf, tables, tablesOf}
 use denote.Triple.Spec.{tripleOf}
 use denote.Triple.Table.{entered, cited}
@@ -23,5 +25,5 @@ unfolding code.routine tablesOf
 run-on-spec 𝓤 H 𝓜 𝓖 𝓡 =
     entered 𝓤 H (tripleOf 𝓤 H (𝓖 .A) self.signature (self.spec 𝓤 H (𝓖 .A) (𝓜 .mem) (𝓡 .run)))
     (tables 𝓤 H 𝓜 𝓡 code.env .C) (tables 𝓤 H 𝓜 𝓡 code.env .Λ) #key code.function (code.unfolded 𝓤 H 𝓜 𝓡)
-    (faces chip answer diagnostic outcome 256 chip-data answer-data diagnostic-data laws (lit< tt, lit< tt) 𝓤 H (𝓖 .A) (givenOf 𝓤 H 𝓜 𝓖) #callee Said (λ c st s a r a′. Said c st s a (r .answer) (r .chip) (r .records) a′) (λ h ys s a r h′ ys′ a′ did. did) (tablesOf 𝓤 H 𝓜 (tables 𝓤 H 𝓜 𝓡 code.env))
+    (faces chip answer diagnostic outcome 256 chip-data answer-data diagnostic-data laws (lit< tt, lit< tt) 𝓤 H (𝓖 .A) (givenOf 𝓤 H 𝓜 𝓖) #callee Said (λ κs x r e. self.clauses 𝓤 H (𝓖 .A) (𝓜 .mem) (𝓡 .run) κs x .ensures tt r e) (λ κs x r h′ ys′ a′ did. factI 𝓤 _ (emp 𝓤) did) (tablesOf 𝓤 H 𝓜 (tables 𝓤 H 𝓜 𝓡 code.env))
     (cited 𝓤 H (Asked 𝓤 H (𝓖 .A) callee.ended (callee.clauses 𝓤 H (𝓖 .A) (𝓜 .mem) (𝓡 .run))) 𝓜 𝓡 code.env #callee callee-def.routine code.calls-script·run (callee-thm.met 𝓤 H 𝓜 𝓖 𝓡)))

@@ -1,6 +1,7 @@
 // What a Rattle program can call: power-on, the bus calls on values, what can be asked of a chip, a script on a chip that is
-// not clockrun's, and taking.
-// The file `stdout` has the answers of the Rust to the calls of tools/oracle/expected/example_panel.calls.
+// not clockrun's, and taking. It reads the script, of five records, from standard input.
+// The file `stdin` is examples/status.script, and `stdout` has the answers of the Rust to the calls of
+// tools/oracle/expected/example_panel.calls.
 mod text;
 
 use bus_by_value::Session;
@@ -22,33 +23,35 @@ use ds3231_chip::power_on;
 use ds3231_chip::register;
 use script::RunOutcome;
 use script::run_values;
-
-// Points at the status register and reads it: START 68 W, WRITE 0F, START 68 R, READ, STOP, from 3 s on, a microsecond apart.
-const STATUS: [u8; 80] = [
-    0x00, 0x5E, 0xD0, 0xB2, 0x00, 0x00, 0x00, 0x00, 0x00, 0xD0, 0, 0, 0, 0, 0, 0, //
-    0xE8, 0x61, 0xD0, 0xB2, 0x00, 0x00, 0x00, 0x00, 0x01, 0x0F, 0, 0, 0, 0, 0, 0, //
-    0xD0, 0x65, 0xD0, 0xB2, 0x00, 0x00, 0x00, 0x00, 0x00, 0xD1, 0, 0, 0, 0, 0, 0, //
-    0xB8, 0x69, 0xD0, 0xB2, 0x00, 0x00, 0x00, 0x00, 0x02, 0x00, 0, 0, 0, 0, 0, 0, //
-    0xA0, 0x6D, 0xD0, 0xB2, 0x00, 0x00, 0x00, 0x00, 0x03, 0x00, 0, 0, 0, 0, 0, 0, //
-];
+use streams::Transfer;
+use streams::read_input;
 
 fn main() {
+    let mut script = [0u8; 80];
+    match read_input(&mut script) {
+        Transfer::Whole => panel(script),
+        Transfer::Stopped { .. } => text::no_script(),
+    }
+}
+
+// Sets a chip's hour, polls its status by a script of five records, and takes what was reported; then another chip.
+fn panel(script: [u8; 80]) {
     let session = set_the_hour(begun(powered()));
-    let outcome = poll(session);
+    let outcome = poll(session, script);
     take(outcome);
-    run_elsewhere(powered());
+    run_elsewhere(powered(), script);
 }
 
 // A chip at power-on.
 fn powered() -> Ds3231 {
-    let powered = power_on(panel());
+    let powered = power_on(lost_battery());
     let answer = powered.answer;
     text::power_on(answer);
     powered.chip
 }
 
 // A panel whose battery was empty: the oscillator had stopped. It has 22.5 degrees.
-fn panel() -> Ds3231Config {
+fn lost_battery() -> Ds3231Config {
     let start = DateTime {
         year: 2027,
         month: 12,
@@ -108,10 +111,9 @@ fn told(session: Session) -> Session {
 }
 
 // Runs the script on the session's chip and store.
-fn poll(session: Session) -> RunOutcome {
+fn poll(session: Session, script: [u8; 80]) -> RunOutcome {
     let chip = session.chip;
     let store = session.store;
-    let script = STATUS;
     let mut answers = [0u8; 5];
     let outcome = run_on(chip, store, &script, &mut answers);
     let answer = outcome.answer;
@@ -131,9 +133,8 @@ fn take(outcome: RunOutcome) {
 }
 
 // Runs the script on another chip, by value.
-fn run_elsewhere(chip: Ds3231) {
+fn run_elsewhere(chip: Ds3231, script: [u8; 80]) {
     let unwritten = I2cDiagnostic::unwritten();
-    let script = STATUS;
     let mut answers = [0u8; 5];
     let outcome = run_values(chip, [unwritten; 256], &script, &mut answers);
     let answer = outcome.answer;

@@ -13,6 +13,10 @@ use listing::diagnostic_lines;
 use script::RunAnswer;
 use script_listing::within;
 
+pub(crate) fn no_script() {
+    line(b"the script has fewer than five records");
+}
+
 pub(crate) fn power_on(answer: PowerOnAnswer) {
     match answer {
         PowerOnAnswer::On => line(b"ok"),

@@ -1,4 +1,4 @@
-/* Scripts for the model of the DS3231 clock chip: the two calls for a host in C.
+/* Scripts for the model of the DS3231 clock chip: the two calls for a host in C or C++.
  *
  * A script is records of 16 bytes, with no header:
  *   bytes 0 to 7    the instant in nanoseconds since power-on, lowest byte first
@@ -18,8 +18,18 @@
  *   19  an instant below the previous record's
  * in the order 14, 13, 15, then record by record 16 to 19.
  *
- * Both end for every input, read no byte outside `script`, and write no byte outside `answers`.
- * No pointer may be null, also where its length is 0, and the two slices may not overlap.
+ * Both end for every input, read no byte outside `script`, and write no byte outside `answers`. The two slices may not
+ * overlap. Where a length is 0 its pointer may be null, as the data() of an empty std::vector may be.
+ *
+ * Both are reentrant: they keep no global state, allocate nothing and call no function outside the archive, so any number
+ * of threads may call them at once. They take less than CLOCK_SCRIPT_STACK bytes of stack.
+ *
+ * The archive is for x86-64 Linux; `rt staticlib script` makes it. A host is compiled, in the folder of the repository, by
+ *   gcc -Ihost host/c/run.c target/staticlib/libscript.a -o target/run
+ * where run.c stands for the host. pkg-config and CMake find both paths, from any folder:
+ *   PKG_CONFIG_PATH=$REPOSITORY/host pkg-config --cflags --libs clock_script
+ *   find_package(clock REQUIRED COMPONENTS script PATHS ${REPOSITORY}/host NO_DEFAULT_PATH)
+ *   target_link_libraries(app PRIVATE clock::script)
  */
 #ifndef CLOCK_SCRIPT_H
 #define CLOCK_SCRIPT_H
@@ -30,6 +40,9 @@
 #ifdef __cplusplus
 extern "C" {
 #endif
+
+/* Measured on a painted stack (host/c/stack.c): 360 bytes, the caller's frame among them; 328 by the code's own frames. */
+#define CLOCK_SCRIPT_STACK 512
 
 /* Checks the `length` bytes at `script`. */
 uint32_t clock_script_check(const uint8_t *script, size_t length);

@@ -1,9 +1,8 @@
 /* The median time of 1,000 runs of a script of 2,048 records: a time setting and time reads, over and over. */
-#include "../clock_script.h"
+#include "clock_script.h"
 #include "record.h"
 #include <stdio.h>
 #include <stdlib.h>
-#include <string.h>
 #include <time.h>
 
 enum { RUNS = 1000 };

@@ -1,17 +1,6 @@
 /* Tests of the two calls on dates from C: document 01's examples, and every day both ways. */
-#include "../clock_dates.h"
-#include <stdio.h>
-
-static int passed, failed;
-
-static void expect(const char *what, uint64_t got, uint64_t wanted) {
-    if (got == wanted) {
-        passed++;
-        return;
-    }
-    failed++;
-    printf("%s: %llx, wanted %llx\n", what, (unsigned long long)got, (unsigned long long)wanted);
-}
+#include "clock_dates.h"
+#include "expect.h"
 
 static uint64_t refusal(uint64_t number) { return number << 56; }
 
@@ -42,6 +31,5 @@ int main(void) {
         uint64_t seconds = day * 86400 + day % 86400;
         expect("there and back", seconds_of(clock_date_from_seconds(seconds)), seconds);
     }
-    printf("dates: %d passed, %d failed\n", passed, failed);
-    return failed != 0;
+    return counted("dates");
 }

@@ -1,10 +1,14 @@
-/* Writes record i of a script. */
+/* The records of a script. */
+#ifndef RECORD_H
+#define RECORD_H
+
 #include <stddef.h>
 #include <stdint.h>
 #include <string.h>
 
 enum { RECORD = 16, MOST = 2048 };
 
+/* Writes record i of a script. */
 static inline void put(uint8_t *script, size_t i, uint64_t at, uint8_t kind, uint8_t value) {
     uint8_t *record = script + RECORD * i;
     memset(record, 0, RECORD);
@@ -13,3 +17,5 @@ static inline void put(uint8_t *script, size_t i, uint64_t at, uint8_t kind, uin
     record[8] = kind;
     record[9] = value;
 }
+
+#endif

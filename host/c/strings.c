@@ -2,23 +2,14 @@
  * bytes around it and around the answers, and once more in blocks of the heap that have no byte to spare, where valgrind
  * sees a byte read or written outside.
  * usage: strings [STEP [SEED]]   every STEP-th length (1); the seed (3231) */
-#include "../clock_script.h"
-#include "record.h"
+#include "clock_script.h"
+#include "random.h"
 #include <stdio.h>
 #include <stdlib.h>
 
 enum { LONGEST = 40000, GUARD = 64, SCRIPTS = 10000, MARK = 0xA5 };
 
 static uint64_t state;
-
-/* xorshift64* */
-static uint64_t next(void) {
-    state ^= state >> 12;
-    state ^= state << 25;
-    state ^= state >> 27;
-    return state * 2685821657736338717u;
-}
-
 static uint8_t script[GUARD + LONGEST + 8 + GUARD], copy[sizeof script];
 static uint8_t answers[GUARD + LONGEST / RECORD + 8 + GUARD];
 static unsigned long legal, refused, bad;
@@ -71,7 +62,7 @@ static void both(size_t length) {
         fault("a refusal wrote an answer", length);
     in_blocks(length, records, checked);
     /* One answer byte more or less than records. */
-    size_t lent = next() % 2 != 0 || records == 0 ? records + 1 : records - 1;
+    size_t lent = next(&state) % 2 != 0 || records == 0 ? records + 1 : records - 1;
     memset(answers, MARK, sizeof answers);
     uint32_t other = clock_script_run(script + GUARD, length, answers + GUARD, lent);
     uint32_t wanted = number == 13 || number == 14 ? checked : 15 * 65536u;
@@ -85,7 +76,7 @@ static void both(size_t length) {
 
 static void random_string(size_t length) {
     for (size_t i = 0; i < length; i += 8) {
-        uint64_t bytes = next();
+        uint64_t bytes = next(&state);
         memcpy(script + GUARD + i, &bytes, 8);
     }
     both(length);
@@ -93,18 +84,14 @@ static void random_string(size_t length) {
 
 /* A script of any length, the longest past the limit, with up to two bytes damaged. */
 static void damaged_script(void) {
-    size_t records = next() % (next() % 8 == 0 ? LONGEST / RECORD : 64);
-    uint64_t at = 0;
-    for (size_t i = 0; i < records; i++) {
-        uint8_t kind = (uint8_t)(next() % 4), value = (uint8_t)next();
-        at += next() >> (next() % 64);
-        uint8_t start = next() % 4 == 0 ? value : (uint8_t)(0xD0 + value % 2);
-        put(script + GUARD, i, at >> 8, kind, kind == 0 ? start : kind == 1 ? value : kind == 2 ? value % 2 : 0);
-        at = at < UINT64_MAX / 2 ? at : UINT64_MAX / 2;
-    }
+    size_t most = next(&state) % 8 == 0 ? LONGEST / RECORD : 64;
+    size_t records = next(&state) % most;
+    random_script(script + GUARD, records, &state);
     size_t length = RECORD * records;
-    for (uint64_t damage = next() % 3; length > 0 && damage > 0; damage--)
-        script[GUARD + next() % length] = (uint8_t)next();
+    for (uint64_t damage = next(&state) % 3; length > 0 && damage > 0; damage--) {
+        size_t place = next(&state) % length;
+        script[GUARD + place] = (uint8_t)next(&state);
+    }
     both(length);
 }
 

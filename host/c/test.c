@@ -1,21 +1,9 @@
-/* Tests of the two calls from C. Prints how many passed; exits 1 where one failed. */
-#include "../clock_script.h"
+/* Tests of the two calls on scripts from C. */
+#include "clock_script.h"
+#include "expect.h"
 #include "record.h"
-#include <stdio.h>
-#include <string.h>
 
 enum { START, WRITE, READ, STOP };
-
-static int passed, failed;
-
-static void expect(const char *what, uint32_t got, uint32_t wanted) {
-    if (got == wanted) {
-        passed++;
-        return;
-    }
-    failed++;
-    printf("%s: %u:%u, wanted %u:%u\n", what, got >> 16, got & 0xFFFF, wanted >> 16, wanted & 0xFFFF);
-}
 
 static uint32_t refusal(uint32_t number, uint32_t record) { return number * 65536 + record; }
 
@@ -93,6 +81,5 @@ int main(void) {
         else
             both("falling instant", RECORD * MOST, refusal(19, i));
     }
-    printf("%d passed, %d failed\n", passed, failed);
-    return failed != 0;
+    return counted("test");
 }

@@ -1,0 +1,27 @@
+# The targets clock::script and clock::dates, of the archives in target/staticlib of this repository:
+#   find_package(clock REQUIRED COMPONENTS script dates PATHS ${REPOSITORY}/host NO_DEFAULT_PATH)
+#   target_link_libraries(app PRIVATE clock::script clock::dates)
+get_filename_component(clock_archives "${CMAKE_CURRENT_LIST_DIR}/../target/staticlib" ABSOLUTE)
+set(clock_crate_of_script script)
+set(clock_crate_of_dates dates_host)
+
+if(NOT clock_FIND_COMPONENTS)
+    set(clock_FIND_COMPONENTS script dates)
+endif()
+set(clock_FOUND TRUE)
+foreach(clock_component IN LISTS clock_FIND_COMPONENTS)
+    set(clock_crate "${clock_crate_of_${clock_component}}")
+    set(clock_archive "${clock_archives}/lib${clock_crate}.a")
+    if(NOT clock_crate)
+        set(clock_FOUND FALSE)
+        string(APPEND clock_NOT_FOUND_MESSAGE "There is no component ${clock_component}, but script and dates. ")
+    elseif(NOT EXISTS "${clock_archive}")
+        set(clock_FOUND FALSE)
+        string(APPEND clock_NOT_FOUND_MESSAGE "${clock_archive} is missing: `rt staticlib ${clock_crate}` makes it. ")
+    elseif(NOT TARGET clock::${clock_component})
+        add_library(clock::${clock_component} STATIC IMPORTED)
+        set_target_properties(clock::${clock_component} PROPERTIES
+            IMPORTED_LOCATION "${clock_archive}"
+            INTERFACE_INCLUDE_DIRECTORIES "${CMAKE_CURRENT_LIST_DIR}")
+    endif()
+endforeach()

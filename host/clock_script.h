@@ -18,6 +18,8 @@
  *   19  an instant below the previous record's
  * in the order 14, 13, 15, then record by record 16 to 19.
  *
+ * Neither gives the diagnostics of the events: the program clockrun prints them.
+ *
  * Both end for every input, read no byte outside `script`, and write no byte outside `answers`. The two slices may not
  * overlap. Where a length is 0 its pointer may be null, as the data() of an empty std::vector may be.
  *

@@ -1,5 +1,5 @@
 /* Runs the script on standard input and prints its answers, two hexadecimal digits a line; or the refusal.
- * Exits 0, 1 where the script is refused, 2 where the input cannot be read or the output not be written. */
+ * Exits 0, 1 where the script is refused, 2 where it has an argument, or cannot read the input or write the output. */
 #include "clock_script.h"
 #include <stdio.h>
 
@@ -11,7 +11,11 @@ static int failed(const char *where) {
     return 2;
 }
 
-int main(void) {
+int main(int count, char **words) {
+    if (count > 1) {
+        fprintf(stderr, "usage: %s <SCRIPT (it takes no argument)\n", words[0]);
+        return 2;
+    }
     size_t length = fread(script, 1, sizeof script, stdin);
     if (ferror(stdin))
         return failed("standard input");

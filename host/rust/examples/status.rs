@@ -1,7 +1,7 @@
 //! Points at the status register and reads it: the script of `examples/status.txt` in the repository.
-use clock_script::{Address, Event, Refusal, Script};
+use clock_script::{Address, Event, Script};
 
-fn main() -> Result<(), Refusal> {
+fn main() {
     let script: Script = [
         Event::start(3_000_000_000, Address::DS3231, false),
         Event::write(3_000_001_000, 0x0F),
@@ -11,6 +11,8 @@ fn main() -> Result<(), Refusal> {
     ]
     .into_iter()
     .collect();
-    println!("{:02X?}", script.run()?);
-    Ok(())
+    match script.run() {
+        Ok(answers) => println!("{answers:02X?}"),
+        Err(refusal) => println!("{refusal}"),
+    }
 }

@@ -8,7 +8,7 @@ abbrev pub bytesMoved : ℤ → ℕ
 bytesMoved (pos k) = k
 bytesMoved (negsuc k) = 0
 
--- of n bytes all were moved; or fewer, and the last call moved none
+-- of n bytes fewer were moved only where the last call moved none. That all were moved, and which bytes, is left free: the contracts of `read` and `write` do not say it
 abbrev pub Transferred : ℕ → Transfer → Type 0
 Transferred n Whole = Unit {0}
 Transferred n (Stopped count answer) = (count < n) × (bytesMoved answer ≡ 0)

@@ -1,3 +1,4 @@
 pub mod Claim
 pub mod Choice
+pub mod Entries
 pub mod Lossless

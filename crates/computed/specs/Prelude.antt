@@ -9,3 +9,4 @@ pub use lib.ListN.{length, getD, set, take, drop, replicate}
 pub use lib.IntN.{ℤ, pos, negsuc, natAbs}
 pub use lib.Signed.{leZ, shrZ}
 pub use Rattle.computed.specs.Choice.{if_then_else_}
+pub use Rattle.computed.specs.Entries.{At, entry}

@@ -6,24 +6,27 @@ use mathlib.Core.List.{List, [], _∷_, _++_}
 use mathlib.Core.Path.{_≡_, refl, sym, ap, ap₂, _∙_, subst}
 use native.Mathlib.Nat.{le-trans}
 use native.Mathlib.Omega.{arith}
-use borrow.Author.Tests.{le-leb}
 use lib.Dec.{leb, eqb}
-use lib.ListN.{length, getD}
+use lib.ListN.{length}
 use Rattle.refusals.specs.Numbered.{Numbered, accepted, refused, andThen, unless}
 use Rattle.refusals.proofs.Checks.{never}
 use Rattle.computed.specs.Choice.{if_then_else_}
+use Rattle.computed.specs.Entries.{At, entry}
 use Rattle.computed.proofs.Choice.{chosen}
 use Rattle.calendar.specs.Stated.{InRange, checked, secondsOf}
 use Rattle.calendar.proofs.Laws.{accepted-in-range, time-in-range, seconds-of-time, weekday-formula}
+use Rattle.fields.proofs.Laws.{seven-bytes}
 use Rattle.diagnostics.specs.declared.I2cDiagnostic.{I2cDiagnostic}
 use Rattle.ds3231.specs.Clock.{secondsAt}
-use Rattle.ds3231.specs.Changed.{offsetFor}
-use Rattle.ds3231.specs.Timing.{shownAt, latch, pointed, inPhase}
-use Rattle.ds3231.specs.Registers.{otherByte}
-use Rattle.ds3231.specs.Calls.{inQuarters, sound, timingOn, chipOn, checkedQuarters, powerOn, shownTime, registerAnswer, written, hasRead, step, stepChip, replied, Call, bus, taking, lentStore, tooShort, verdict, chipBy, chipAfter, answeredBy, answer}
+use Rattle.ds3231.specs.Map.{numberOf, named}
+use Rattle.ds3231.specs.Changed.{offsetFor, nextPointer}
+use Rattle.ds3231.specs.Timing.{shownAt, latch, pointed, pointedBy}
+use Rattle.ds3231.specs.Registers.{byteAt}
+use Rattle.ds3231.specs.Calls.{inQuarters, sound, timingOn, chipOn, checkedQuarters, powerOn, shownTime, registerByte, registerAnswer, written, hasRead, step, stepChip, replied, Call, bus, taking, lentStore, tooShort, verdict, chipBy, chipAfter, answeredBy, answer}
 use Rattle.ds3231.specs.Model.{Stage, reads, Model, isReads, modelOn}
 use Rattle.ds3231.specs.Exact.{eventsBy, events, fullyLent, modelAfter, instant, NeverFall, lastInstant, Watched, marks, watchedBy, watched, after, TimeRead, answerTo, Holds, ExactTime}
 use Rattle.ds3231.specs.Total.{chipAfterAll}
+use Rattle.ds3231.specs.Types.{Register, Named, One, None}
 use Rattle.ds3231.specs.declared.Phase.{Phase}
 use Rattle.ds3231.specs.declared.Phase.the-variants.{Released, Pointer, Writing, Reading, Ignoring}
 use Rattle.ds3231.specs.declared.Timing.{Timing}
@@ -34,7 +37,10 @@ use Rattle.ds3231.specs.declared.Reply.the-variants.{Byte}
 use Rattle.ds3231.specs.declared.Ds3231Config.{Ds3231Config}
 use Rattle.ds3231.proofs.Facts.{Sound, sound-test}
 use Rattle.ds3231.proofs.Bytes.{seconds-in}
-use Rattle.ds3231.proofs.Sounds.{call-sound, after-sound, register-byte, on-sound}
+use Rattle.ds3231.proofs.Sounds.{call-sound, after-sound, on-sound}
+use Rattle.ds3231.proofs.Map.{names-one}
+use Rattle.ds3231.proofs.RegisterBytes.{looked-up, time-entry}
+use Rattle.ds3231.proofs.NeverRefused.{asked}
 use Rattle.ds3231.proofs.Places.{stageOf, Place, event-place}
 use Rattle.ds3231.proofs.Follows.{Follows, exact-is, follow-later, follow-latch, event-follows}
 
@@ -76,24 +82,24 @@ write-latch : (p : Phase) (b t : ℕ) (c : Ds3231) → written p b t c .timing .
 write-latch Released b t c = refl
 write-latch Reading b t c = refl
 write-latch Ignoring b t c = refl
-write-latch Pointer b t c = by (leb b 0x12)
+write-latch Pointer b t c = by (named b)
   where
-    by : (e : Bool) → (if e then inPhase Writing (pointed b (c .timing)) else inPhase Ignoring (c .timing)) .latched ≡ c .timing .latched
-    by true = refl
-    by false = refl
+    by : (d : Named) → pointedBy d (c .timing) .latched ≡ c .timing .latched
+    by (One r) = refl
+    by None = refl
 write-latch Writing b t c = refl
 
 -- a read latches where it wraps, as the model tells
 read-latch : (p : Phase) (t : ℕ) (c d n : Ds3231) (l : ℕ) → n .timing ≡ hasRead p t c .timing → Shown (c .timing) d l
-    → let b = isReads (stageOf p) && leb 0x12 (c .timing .pointer) in Shown (hasRead p t c .timing) (if b then n else d) (if b then t else l)
+    → let b = isReads (stageOf p) && leb 0x12 (numberOf (c .timing .pointer)) in Shown (hasRead p t c .timing) (if b then n else d) (if b then t else l)
 read-latch Released t c d n l e w = w
 read-latch Pointer t c d n l e w = w
 read-latch Writing t c d n l e w = w
 read-latch Ignoring t c d n l e w = w
-read-latch Reading t c d n l e w = by (leb 0x12 (c .timing .pointer)) e
+read-latch Reading t c d n l e w = by (leb 0x12 (numberOf (c .timing .pointer))) e
   where
-    by : (b : Bool) → n .timing ≡ (if b then latch t (pointed 0 (c .timing)) else pointed (c .timing .pointer + 1) (c .timing))
-        → Shown (if b then latch t (pointed 0 (c .timing)) else pointed (c .timing .pointer + 1) (c .timing)) (if b then n else d) (if b then t else l)
+    by : (b : Bool) → n .timing ≡ (if b then latch t (pointed (nextPointer (c .timing .pointer)) (c .timing)) else pointed (nextPointer (c .timing .pointer)) (c .timing))
+        → Shown (if b then latch t (pointed (nextPointer (c .timing .pointer)) (c .timing)) else pointed (nextPointer (c .timing .pointer)) (c .timing)) (if b then n else d) (if b then t else l)
     by true q = ap (λ (x : Timing). shownAt x t) (sym q)
     by false q = w
 
@@ -227,19 +233,16 @@ power-on-offset f c₀ e = ap (λ (c : Ds3231). c .timing .clock .«weekday_offs
 
 -- ---- the claim
 
--- what a READ answers, once the chip is known to be addressed for reading and at a time register
-read-answer : (s : List I2cDiagnostic) (k : Bool) (t : ℕ) (c : Ds3231) → verdict (bus s (Read k t)) c ≡ accepted tt → c .timing .phase ≡ Reading → c .timing .pointer ≤ 0x06
-    → answer (bus s (Read k t)) c ≡ accepted (replied (Byte (getD (c .timing .latched) (c .timing .pointer) 0)))
-read-answer s k t c v p r =
+-- what a READ answers, once the chip is known to be addressed for reading
+read-answer : (s : List I2cDiagnostic) (k : Bool) (t : ℕ) (c : Ds3231) → verdict (bus s (Read k t)) c ≡ accepted tt → c .timing .phase ≡ Reading
+    → answer (bus s (Read k t)) c ≡ accepted (replied (Byte (byteAt (c .timing .latched) (c .registers) (c .timing .pointer) t)))
+read-answer s k t c v p =
     ap (λ (x : Numbered (Unit {0})). andThen x (accepted (answeredBy (bus s (Read k t)) c))) v
     ∙ ap (λ (x : Phase). accepted (replied (hasRead x t c .reply))) p
-    ∙ ap (λ (e : Bool). accepted (replied (Byte (if e then getD (c .timing .latched) (c .timing .pointer) 0 else otherByte (c .registers) (c .timing .pointer) t)))) (le-leb _ _ r)
 
--- what `register` answers at a time register of a sound chip
-register-answer : (c : Ds3231) (r t : ℕ) → Sound c → r ≤ 0x06 → registerAnswer c r t ≡ accepted (getD (shownAt (c .timing) t) r 0)
-register-answer c r t w h =
-    register-byte c r t (sound-test c w) (omega arith)
-    ∙ ap (λ (e : Bool). accepted (if e then getD (shownAt (c .timing) t) r 0 else otherByte (c .registers) r t)) (le-leb r 0x06 h)
+-- what `register` answers at the number of a register of a sound chip
+register-answer : (c : Ds3231) (r : Register) (n t : ℕ) → Sound c → n ≡ numberOf r → registerAnswer c n t ≡ accepted (byteAt (shownAt (c .timing) t) (c .registers) r t)
+register-answer c r n t w e = asked c (registerByte (named n) c t) (sound-test c w) ∙ ap (λ (d : Named). registerByte d c t) (names-one n (One r) (sym e))
 
 -- what `now` shows is valid, and its seconds are the clock's
 shown-valid : (c : Ds3231) (t : ℕ) → InRange (shownTime c t)
@@ -265,14 +268,12 @@ module _ (f : Ds3231Config) (v : InRange (f .start)) (q : inQuarters (f .«tempe
   never-before calls before more e h =
       never-prefix (events c₀ before) (events (chipAfterAll c₀ before) more) 0 (subst (NeverFall 0) (ap (events c₀) e ∙ events-append before more c₀) h)
 
-  -- what a READ of the time answers
-  answers : (calls : List Call) (r : TimeRead f c₀ calls) → let c = after f c₀ (r .before) .chip .timing in
-      answerTo f c₀ calls r ≡ accepted (replied (Byte (getD (c .latched) (c .pointer) 0)))
+  -- what a READ of the time answers, and that its register is one of the time
+  answers : (calls : List Call) (r : TimeRead f c₀ calls) → let c = after f c₀ (r .before) .chip in
+      answerTo f c₀ calls r ≡ accepted (replied (Byte (byteAt (c .timing .latched) (c .registers) (c .timing .pointer) (r .at))))
   answers calls r =
       let c = after f c₀ (r .before) .chip in
-      let w = stands (r .before) .place in
-      read-answer (r .store) (r .acknowledged) (r .at) c (r .not-refused) (reading-phase (c .timing .phase) (sym (w .stage) ∙ r .reading))
-      (subst (λ (x : ℕ). x ≤ 0x06) (w .pointer) (r .at-time))
+      read-answer (r .store) (r .acknowledged) (r .at) c (r .not-refused) (reading-phase (c .timing .phase) (sym (stands (r .before) .place .stage) ∙ r .reading))
     where
       reading-phase : (p : Phase) → stageOf p ≡ reads → p ≡ Reading
       reading-phase Reading e = refl
@@ -281,6 +282,9 @@ module _ (f : Ds3231Config) (v : InRange (f .start)) (q : inQuarters (f .«tempe
       reading-phase Writing e = cc
       reading-phase Ignoring e = cc
 
+  time-register : (calls : List Call) (r : TimeRead f c₀ calls) → numberOf (after f c₀ (r .before) .chip .timing .pointer) ≤ 0x06
+  time-register calls r = subst (λ (x : ℕ). x ≤ 0x06) (stands (r .before) .place .pointer) (r .at-time)
+
   holds : (calls : List Call) → Holds f c₀ calls
   holds calls =
       record {
@@ -288,15 +292,26 @@ module _ (f : Ds3231Config) (v : InRange (f .start)) (q : inQuarters (f .«tempe
         fed-alone = fed-events calls watchedOn ∙ ap (modelAfter (modelOn f)) (feed-run calls c₀ (on-sound f v q));
         answers-register = λ r.
             let w = after f c₀ (r .before) in
-            let s = stands (r .before) in (
-              getD (w .chip .timing .latched) (w .chip .timing .pointer) 0,
+            let s = stands (r .before) in
+            let c = w .chip in
+            let p = c .timing .pointer in
+            let h = time-register calls r in (
+              byteAt (c .timing .latched) (c .registers) p (r .at),
               answers calls r,
-              register-answer (w .marked) (w .model .pointer) (w .at) (s .sound-mark) (r .at-time)
-                  ∙ ap₂ (λ (l : List ℕ) (x : ℕ). accepted (getD l x 0)) (sym (s .shown)) (s .place .pointer),
+              register-answer (w .marked) p (w .model .pointer) (w .at) (s .sound-mark) (s .place .pointer)
+                  ∙ ap accepted (looked-up (shownAt (w .marked .timing) (w .at)) (w .marked .registers) (w .at) p .time-byte h
+                  ∙ ap (λ (l : List ℕ). entry l (numberOf p)) (sym (s .shown)) ∙ sym (looked-up (c .timing .latched) (c .registers) (r .at) p .time-byte h)),
             );
         answers-model = λ h r.
             let w = follows (r .before) (never-before calls (r .before) (bus (r .store) (Read (r .acknowledged) (r .at)) ∷ r .later) (r .among) h) in
-            answers calls r ∙ ap₂ (λ (l : List ℕ) (x : ℕ). accepted (replied (Byte (getD l x 0)))) (sym (w .latched)) (sym (w .pointer));
+            let c = after f c₀ (r .before) .chip in
+            let l = c .timing .latched in (
+              byteAt l (c .registers) (c .timing .pointer) (r .at),
+              answers calls r,
+              subst (λ (x : ℕ). At (after f c₀ (r .before) .model .latched) x (byteAt l (c .registers) (c .timing .pointer) (r .at))) (sym (w .pointer))
+                  (subst (λ (x : List ℕ). At x (numberOf (c .timing .pointer)) (byteAt l (c .registers) (c .timing .pointer) (r .at))) (sym (w .latched))
+                  (time-entry l (c .registers) (r .at) (ap length (stands (r .before) .shown) ∙ seven-bytes _ _ _) (c .timing .pointer) (time-register calls r))),
+            );
         latches = λ h. sym (follows calls h .latched);
         shows = λ h t g.
             let c = after f c₀ calls .chip in

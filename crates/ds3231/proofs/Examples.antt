@@ -2,18 +2,20 @@
 -- Assumes nothing.
 use Prim.Native.Nat.{ℕ}
 use mathlib.Core.Bool.{true}
+use mathlib.Core.List.{List}
 use mathlib.Core.Path.{_≡_, ap}
 use lib.IntN.{ℤ, pos, negsuc}
 use lib.Bits.{bitAnd, bitOr}
 use Rattle.calendar.proofs.Examples as Calendar
 use Rattle.fields.specs.Table.{undefined, sets, meaning}
 use Rattle.fields.proofs.Examples as Hours
-use Rattle.ds3231.specs.Registers.{temperatureHigh, temperatureLow, otherByte, registersWritten}
+use Rattle.ds3231.specs.Registers.{temperatureHigh, temperatureLow, byteAt, registersWritten}
+use Rattle.ds3231.specs.Types.{TemperatureMsb, TemperatureLsb}
 use Rattle.ds3231.specs.declared.Registers.{Registers}
 
--- the temperature registers of some quarters, whatever the other registers and the instant
+-- the temperature registers of some quarters, whatever the time, the other registers and the instant
 abbrev Reads : ℤ → ℕ → ℕ → Type 0
-Reads q high low = (g : Registers) (t : ℕ) → g .«temperature_quarters» ≡ q → (otherByte g 0x11 t ≡ high) × (otherByte g 0x12 t ≡ low)
+Reads q high low = (l : List ℕ) (g : Registers) (t : ℕ) → g .«temperature_quarters» ≡ q → (byteAt l g TemperatureMsb t ≡ high) × (byteAt l g TemperatureLsb t ≡ low)
 
 pub record Examples : Type 0 where
   -- dates, seconds and weekdays; 6,311,433,600 gives 8; 2100-02-29 gives 3
@@ -29,9 +31,8 @@ pub record Examples : Type 0 where
   -- status 0x88 written 0x0F is 0x08
   pub status : (g : Registers) (t : ℕ) → g .status ≡ 0x88 → registersWritten 0x0F 0x0F t g .status ≡ 0x08
 
-temperature : (q : ℤ) (g : Registers) (t : ℕ) → g .«temperature_quarters» ≡ q → (otherByte g 0x11 t ≡ temperatureHigh q) × (otherByte g 0x12 t ≡ temperatureLow q)
-unfolding otherByte
-temperature q g t e = (ap temperatureHigh e, ap temperatureLow e)
+temperature : (q : ℤ) (l : List ℕ) (g : Registers) (t : ℕ) → g .«temperature_quarters» ≡ q → (byteAt l g TemperatureMsb t ≡ temperatureHigh q) × (byteAt l g TemperatureLsb t ≡ temperatureLow q)
+temperature q l g t e = (ap temperatureHigh e, ap temperatureLow e)
 
 pub examples : Examples
 examples =

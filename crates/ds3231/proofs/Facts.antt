@@ -36,7 +36,6 @@ pub record PendingIn (p : PendingTime) : Type 0 where
   pub week-to : p .weekday ≤ 7
 
 pub record TimingIn (c : Timing) : Type 0 where
-  pub pointer : c .pointer ≤ 0x12
   pub base : c .clock .«base_seconds» < range
   pub offset : c .clock .«weekday_offset» ≤ 6
   pub pending : c .«is_pending» ≡ true → PendingIn (c .pending)
@@ -112,7 +111,7 @@ sound-test c h =
     let t = h .timing in
     let g = h .registers in
     both-true _ _ (both-true _ _
-    (both-true _ _ (both-true _ _ (both-true _ _ (le-leb _ _ (t .pointer)) (lt-ltb _ _ (t .base))) (le-leb _ _ (t .offset))) (pending-test (c .timing .«is_pending») (c .timing .pending) (t .pending)))
+    (both-true _ _ (both-true _ _ (lt-ltb _ _ (t .base)) (le-leb _ _ (t .offset))) (pending-test (c .timing .«is_pending») (c .timing .pending) (t .pending)))
     (both-true _ _ (both-true _ _ (g .quarters) (eq-eqb _ _ (g .control))) (eq-eqb _ _ (g .status))))
     (le-leb _ _ (h .waiting))
 
@@ -147,12 +146,11 @@ sound-fact c e =
     let a = both _ (leb (c .diagnostics .waiting) 256) e in
     let b = both (soundTiming (c .timing)) (soundRegisters (c .registers)) (a .0) in
     let p = both _ (not (c .timing .«is_pending») || soundPending (c .timing .pending)) (b .0) in
-    let o = both _ (leb (c .timing .clock .«weekday_offset») 6) (p .0) in
-    let q = both (leb (c .timing .pointer) 0x12) (ltb (c .timing .clock .«base_seconds») range) (o .0) in
+    let o = both (ltb (c .timing .clock .«base_seconds») range) (leb (c .timing .clock .«weekday_offset») 6) (p .0) in
     let s = both _ (eqb (bitAnd (c .registers .status) 0x8B) (c .registers .status)) (b .1) in
     let r = both (inQuarters (c .registers .«temperature_quarters»)) (eqb (bitAnd (c .registers .control) 0x20) 0) (s .0) in
     record {
-      timing = record { pointer = leb-true _ _ (q .0); base = ltb-true _ _ (q .1); offset = leb-true _ _ (o .1); pending = pending-fact (c .timing .«is_pending») (c .timing .pending) (p .1) };
+      timing = record { base = ltb-true _ _ (o .0); offset = leb-true _ _ (o .1); pending = pending-fact (c .timing .«is_pending») (c .timing .pending) (p .1) };
       registers = record { quarters = r .0; control = eqb-true _ _ (r .1); status = eqb-true _ _ (s .1) };
       waiting = leb-true _ _ (a .1);
     }

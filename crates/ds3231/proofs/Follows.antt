@@ -17,7 +17,9 @@ use Rattle.fields.specs.Table.{Meaning, undefined, sets, meaning, timeBytes}
 use Rattle.ds3231.specs.Numbers.{nanos, range, day}
 use Rattle.ds3231.specs.Clock.{secondsAt, timeAt, weekdayAt, secondStart}
 use Rattle.ds3231.specs.Changed.{offsetFor, changedTime, changedWeekday, changedMode, nextPointer}
-use Rattle.ds3231.specs.Timing.{phaseFor, isDefined, setsSeconds, opened, noted, clockFrom, latch, inPhase, pointed, commit, accept}
+use Rattle.ds3231.specs.Timing.{phaseFor, isDefined, setsSeconds, opened, noted, clockFrom, latch, inPhase, pointed, pointedBy, commit, accept}
+use Rattle.ds3231.specs.Map.{numberOf}
+use Rattle.ds3231.specs.Types.{Register, Named}
 use Rattle.ds3231.specs.Calls.{written, hasRead, step}
 use Rattle.ds3231.specs.Exact.{instant}
 use Rattle.ds3231.specs.declared.Ds3231.{Ds3231}
@@ -31,8 +33,9 @@ use Rattle.ds3231.specs.declared.Phase.the-variants.{Released, Pointer, 
 use Rattle.ds3231.specs.declared.Timing.{Timing}
 use Rattle.ds3231.proofs.Counting.{split-count, whole-count, part-count}
 use Rattle.ds3231.proofs.Facts.{TimeIn, TimingIn}
+use Rattle.ds3231.proofs.Map.{next-moved, wrapping}
 use Rattle.ds3231.proofs.Bytes.{meaning-in, InWeek, weekday-in, offset-in, weekday-shown}
-use Rattle.ds3231.proofs.Places.{stageOf, either, stage-addressed, next-moved, readIn}
+use Rattle.ds3231.proofs.Places.{stageOf, stage-addressed, by-name, readIn}
 
 -- ---- the clock and the count
 
@@ -101,7 +104,7 @@ candidates = 0 ∷ 1 ∷ 2 ∷ 3 ∷ 4 ∷ 5 ∷ 6 ∷ []
 
 -- the offset: computed at each remainder of the day and each weekday
 offsets : ℕ → Claim
-offsets k = eq (firstOffset candidates (k / 7) (k % 7 + 1)) ((k % 7 + 1 - 1 + 7 - k / 7 % 7) % 7)
+offsets k = eq (firstOffset candidates (k / 7) (k % 7 + 1)) ((k % 7 + 1 + 6 + 7 - k / 7 % 7) % 7)
 
 -- a day and its remainder have the same offset
 offset-of : (os : List ℕ) (d w : ℕ) → firstOffset os d w ≡ firstOffset os (d % 7) w
@@ -120,7 +123,7 @@ offset-same d w h =
     let p : k / 7 ≡ d % 7 = omega arith in
     let q : k % 7 + 1 ≡ w = omega arith in
     let c = each offsets 0 49 tt k (omega arith) (omega arith) in
-    offset-of candidates d w ∙ ap₂ (λ (x y : ℕ). firstOffset candidates x y) (sym p) (sym q) ∙ c ∙ ap₂ (λ (x y : ℕ). (y - 1 + 7 - x % 7) % 7) p q ∙ ap (λ (x : ℕ). (w - 1 + 7 - x) % 7) (twice d)
+    offset-of candidates d w ∙ ap₂ (λ (x y : ℕ). firstOffset candidates x y) (sym p) (sym q) ∙ c ∙ ap₂ (λ (x y : ℕ). (y + 6 + 7 - x % 7) % 7) p q ∙ ap (λ (x : ℕ). (w + 6 + 7 - x) % 7) (twice d)
 
 -- with its offset the day has the weekday
 pub offset-gives : (d w : ℕ) → InWeek w → weekdayFor d (offsetFor w d) ≡ w
@@ -161,7 +164,7 @@ Within lo hi (a ∷ l) = (lo ≤ a .at) × (a .at ≤ hi) × Within lo hi l
 
 pub record Follows (c : Timing) (m : Model) (last : ℕ) : Type 0 where
   pub stage : m .stage ≡ stageOf (c .phase)
-  pub pointer : m .pointer ≡ c .pointer
+  pub pointer : m .pointer ≡ numberOf (c .pointer)
   pub mode : m .twelve ≡ c .«twelve_hour»
   pub latched : m .latched ≡ c .latched
   pub clock : FollowsClock (c .clock) m last
@@ -341,7 +344,7 @@ follow-phase p s e c m last w =
       within = w .within;
     }
 
-follow-point : (q r : ℕ) → q ≡ r → (c : Timing) (m : Model) (last : ℕ) → Follows c m last → Follows (pointed r c) (pointing q m) last
+follow-point : (q : ℕ) (r : Register) → q ≡ numberOf r → (c : Timing) (m : Model) (last : ℕ) → Follows c m last → Follows (pointed r c) (pointing q m) last
 follow-point q r e c m last w =
     record {
       stage = w .stage;
@@ -386,12 +389,13 @@ follow-write Reading b t c m w = w
 follow-write Ignoring b t c m w = w
 follow-write Pointer b t c m w =
     let k = c .timing in
-    either (λ (x : Timing) (y : Model). Follows x y t) (leb b 0x12) {a = inPhase Writing (pointed b k)} {a′ = inPhase Ignoring k} {b = standing writes (pointing b m)} {b′ = standing drops m}
-    (follow-phase Writing writes refl (pointed b k) (pointing b m) t (follow-point b b refl k m t w)) (follow-phase Ignoring drops refl k m t w)
+    by-name (λ (d : Named) (x : Bool). Follows (pointedBy d (c .timing)) (if x then standing writes (pointing b m) else standing drops m) t) b
+    (λ r e. follow-phase Writing writes refl (pointed r k) (pointing b m) t (follow-point b r (sym e) k m t w)) (follow-phase Ignoring drops refl k m t w)
 follow-write Writing b t c m w =
-    let n = c .timing .pointer in
-    subst (λ (r : ℕ). Follows (written Writing b t c .timing) (pointing (movedPointer r) (keeping r b t m)) t) (sym (w .pointer))
-    (follow-point (movedPointer n) (nextPointer n) (next-moved n) (accept (meaning n b) t (c .timing)) (keeping n b t m) t (follow-accept n b t (c .timing) m w))
+    let r = c .timing .pointer in
+    let n = numberOf r in
+    subst (λ (x : ℕ). Follows (written Writing b t c .timing) (pointing (movedPointer x) (keeping x b t m)) t) (sym (w .pointer))
+    (follow-point (movedPointer n) (nextPointer r) (next-moved r) (accept (meaning n b) t (c .timing)) (keeping n b t m) t (follow-accept n b t (c .timing) m w))
 
 follow-read : (p : Phase) (t : ℕ) (c : Ds3231) (m : Model) → Follows (c .timing) m t → Follows (hasRead p t c .timing) (readIn (stageOf p) t m) t
 follow-read Released t c m w = w
@@ -400,10 +404,10 @@ follow-read Writing t c m w = w
 follow-read Ignoring t c m w = w
 follow-read Reading t c m w =
     let k = c .timing in
-    let n = c .timing .pointer in
-    subst (λ (r : ℕ). Follows (hasRead Reading t c .timing) (if leb 0x12 r then latching t (pointing 0 m) else pointing (r + 1) m) t) (sym (w .pointer))
-    (either (λ (x : Timing) (y : Model). Follows x y t) (leb 0x12 n) {a = latch t (pointed 0 k)} {a′ = pointed (n + 1) k} {b = latching t (pointing 0 m)} {b′ = pointing (n + 1) m}
-    (follow-latch (pointed 0 k) (pointing 0 m) t (follow-point 0 0 refl k m t w)) (follow-point _ (n + 1) refl k m t w))
+    let r = k .pointer in
+    subst (λ (x : ℕ). Follows (hasRead Reading t c .timing) (if leb 0x12 x then latching t (pointing 0 m) else pointing (x + 1) m) t) (sym (w .pointer))
+    (wrapping (λ (x : Bool). let d = pointed (nextPointer r) k in Follows (if x then latch t d else d) (if x then latching t (pointing 0 m) else pointing (numberOf r + 1) m) t) r
+    (λ e. follow-latch (pointed (nextPointer r) k) (pointing 0 m) t (follow-point 0 (nextPointer r) (sym e) k m t w)) (λ e. follow-point _ (nextPointer r) (sym e) k m t w))
 
 pub event-follows : (e : Event) (c : Ds3231) (m : Model) → TimingIn (c .timing) → Follows (c .timing) m (instant e) → Follows (step e c .timing) (fed e m) (instant e)
 event-follows (Start a r t) c m o w =

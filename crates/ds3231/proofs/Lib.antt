@@ -1,10 +1,13 @@
 pub mod Counting
 pub mod Masks
+pub mod Map
 pub mod Facts
 pub mod Bytes
+pub mod RegisterBytes
 pub mod Places
 pub mod Follows
 pub mod Sounds
+pub mod NeverRefused
 pub mod ExactTime
 pub mod ReportTotal
 pub mod Witness

@@ -1,11 +1,10 @@
--- Power-on gives a sound chip, every call keeps a sound chip sound, and each register of a sound chip has a byte.
+-- Power-on gives a sound chip, and every call keeps a sound chip sound.
 -- Assumes nothing.
 use Prim.Native.Nat.{ℕ, _-_, _≤_, _<_}
 use mathlib.Core.Bool.{Bool, true, false, _&&_, _||_, false≢true}
 use mathlib.Core.List.{List, [], _∷_}
-use mathlib.Core.Path.{_≡_, refl, ap₂}
+use mathlib.Core.Path.{_≡_, refl}
 use native.Mathlib.Omega.{arith}
-use borrow.Author.Tests.{leb-true, leb-false, le-leb}
 use lib.Dec.{leb, eqb}
 use lib.Bits.{bitAnd}
 use Rattle.refusals.specs.Numbered.{Numbered, accepted, refused, andThen, unless}
@@ -17,11 +16,12 @@ use Rattle.fields.specs.Table.{Meaning, meaning}
 use Rattle.diagnostics.proofs.Counts.{counted-all-in}
 use Rattle.ds3231.specs.Numbers.{range}
 use Rattle.ds3231.specs.Clock.{secondsAt}
-use Rattle.ds3231.specs.Timing.{isDefined, opened, noted, commit, accept}
-use Rattle.ds3231.specs.Changed.{nextPointer}
+use Rattle.ds3231.specs.Timing.{isDefined, opened, noted, pointedBy, commit, accept}
+use Rattle.ds3231.specs.Map.{numberOf, named}
 use Rattle.ds3231.specs.Registers.{registersWritten}
-use Rattle.ds3231.specs.Calls.{inQuarters, sound, chipOn, Step, written, hasRead, step, stepChip, Call, bus, taking, chipBy, verdict, chipAfter, registerByte, registerAnswer}
+use Rattle.ds3231.specs.Calls.{inQuarters, sound, chipOn, Step, written, hasRead, step, stepChip, Call, bus, taking, chipBy, verdict, chipAfter}
 use Rattle.ds3231.specs.Total.{chipAfterAll}
+use Rattle.ds3231.specs.Types.{Named, One, None}
 use Rattle.ds3231.specs.declared.Clock.{Clock}
 use Rattle.ds3231.specs.declared.Phase.{Phase}
 use Rattle.ds3231.specs.declared.Phase.the-variants.{Released, Pointer, Writing, Reading, Ignoring}
@@ -46,11 +46,11 @@ commit-in : (c : Timing) → TimingIn c → TimingIn (commit c)
 commit-in c h =
     let k = chosen (λ (k : Clock). (k .«base_seconds» < range) × (k .«weekday_offset» ≤ 6)) (c .«is_pending»)
     (λ e. (seconds-below _ (nearest-in-range (c .pending .time)), offset-in (c .pending .weekday) _)) (λ e. (h .base, h .offset)) in
-    record { pointer = h .pointer; base = k .0; offset = k .1; pending = λ e. absurd (false≢true e) }
+    record { base = k .0; offset = k .1; pending = λ e. absurd (false≢true e) }
 
 accept-in : (m : Meaning) → MeaningIn m → (t : ℕ) (c : Timing) → TimingIn c → TimingIn (accept m t c)
 accept-in m i t c h =
-    record { pointer = h .pointer; base = h .base; offset = h .offset; pending = by (isDefined m) }
+    record { base = h .base; offset = h .offset; pending = by (isDefined m) }
   where
     found : PendingIn (if c .«is_pending» then c .pending else opened (c .clock) t)
     found = chosen PendingIn (c .«is_pending») (h .pending) (λ e. opened-in (c .clock) t)
@@ -58,9 +58,6 @@ accept-in m i t c h =
     by : (d : Bool) → (d || c .«is_pending») ≡ true → PendingIn (if d then noted m (if c .«is_pending» then c .pending else opened (c .clock) t) else c .pending)
     by true e = noted-in m i _ found
     by false e = h .pending e
-
-next-in : (r : ℕ) → nextPointer r ≤ 0x12
-next-in r = chosen (λ x. x ≤ 0x12) (leb 0x12 r) (λ e. omega arith) (λ e. omega (arith, leb-false 0x12 r e))
 
 -- ---- the other registers
 
@@ -81,16 +78,15 @@ write-in : (p : Phase) (b t : ℕ) (c : Ds3231) → Sound c → StepIn (written 
 write-in Released b t c h = (h .timing, h .registers)
 write-in Reading b t c h = (h .timing, h .registers)
 write-in Ignoring b t c h = (h .timing, h .registers)
-write-in Pointer b t c h =
-    let w = h .timing in (
-      chosen TimingIn (leb b 0x12) (λ e. record { pointer = leb-true b 0x12 e; base = w .base; offset = w .offset; pending = w .pending })
-          (λ e. record { pointer = w .pointer; base = w .base; offset = w .offset; pending = w .pending }),
-      h .registers,
-    )
+write-in Pointer b t c h = (by (named b), h .registers)
+  where
+    by : (d : Named) → TimingIn (pointedBy d (c .timing))
+    by (One r) = let w = h .timing in record { base = w .base; offset = w .offset; pending = w .pending }
+    by None = let w = h .timing in record { base = w .base; offset = w .offset; pending = w .pending }
 write-in Writing b t c h =
-    let r = c .timing .pointer in
+    let r = numberOf (c .timing .pointer) in
     let k = accept-in (meaning r b) (meaning-in r b) t (c .timing) (h .timing) in
-    (record { pointer = next-in r; base = k .base; offset = k .offset; pending = k .pending }, others-in r b t (c .registers) (h .registers))
+    (record { base = k .base; offset = k .offset; pending = k .pending }, others-in r b t (c .registers) (h .registers))
 
 read-in : (p : Phase) (t : ℕ) (c : Ds3231) → Sound c → StepIn (hasRead p t c)
 read-in Released t c h = (h .timing, h .registers)
@@ -99,8 +95,8 @@ read-in Writing t c h = (h .timing, h .registers)
 read-in Ignoring t c h = (h .timing, h .registers)
 read-in Reading t c h =
     let w = h .timing in (
-      chosen TimingIn (leb 0x12 (c .timing .pointer)) (λ e. record { pointer = omega arith; base = w .base; offset = w .offset; pending = w .pending })
-          (λ e. record { pointer = omega (arith, leb-false 0x12 (c .timing .pointer) e); base = w .base; offset = w .offset; pending = w .pending }),
+      chosen TimingIn (leb 0x12 (numberOf (c .timing .pointer))) (λ e. record { base = w .base; offset = w .offset; pending = w .pending })
+          (λ e. record { base = w .base; offset = w .offset; pending = w .pending }),
       h .registers,
     )
 
@@ -109,12 +105,12 @@ read-in Reading t c h =
 step-in : (e : Event) (c : Ds3231) → Sound c → StepIn (step e c)
 step-in (Start a r t) c h =
     let k = commit-in (c .timing) (h .timing) in
-    (record { pointer = k .pointer; base = k .base; offset = k .offset; pending = k .pending }, h .registers)
+    (record { base = k .base; offset = k .offset; pending = k .pending }, h .registers)
 step-in (Write b t) c h = write-in (c .timing .phase) b t c h
 step-in (Read k t) c h = read-in (c .timing .phase) t c h
 step-in (Stop t) c h =
     let k = commit-in (c .timing) (h .timing) in
-    (record { pointer = k .pointer; base = k .base; offset = k .offset; pending = k .pending }, h .registers)
+    (record { base = k .base; offset = k .offset; pending = k .pending }, h .registers)
 
 pub call-sound : (k : Call) (c : Ds3231) → Sound c → Sound (chipBy k c)
 call-sound (bus s e) c h =
@@ -137,17 +133,12 @@ pub sound-run : (ks : List Call) (c : Ds3231) → sound c ≡ true → sound (ch
 sound-run [] c e = e
 sound-run (k ∷ ks) c e = sound-run ks (chipAfter k c) (sound-kept k c e)
 
--- each register 0x00 to 0x12 of a sound chip has a byte
-pub register-byte : (c : Ds3231) (r t : ℕ) → sound c ≡ true → r ≤ 0x12 → registerAnswer c r t ≡ accepted (registerByte c r t)
-register-byte c r t e h =
-    ap₂ (λ (x y : Bool). andThen (if x then accepted tt else refused 10 []) (if y then accepted (registerByte c r t) else refused 9 [])) e (le-leb r 0x12 h)
-
 -- ---- power-on gives a sound chip
 
 pub on-sound : (f : Ds3231Config) → InRange (f .start) → inQuarters (f .«temperature_quarters») ≡ true → Sound (chipOn f)
 on-sound f v q =
     record {
-      timing = record { pointer = omega arith; base = seconds-below (f .start) v; offset = offset-in _ _; pending = λ e. absurd (false≢true e) };
+      timing = record { base = seconds-below (f .start) v; offset = offset-in _ _; pending = λ e. absurd (false≢true e) };
       registers = record { quarters = q; control = refl; status = chosen (λ x. bitAnd x 0x8B ≡ x) (f .«oscillator_stopped») (λ e. refl) (λ e. refl) };
       waiting = omega arith;
     }

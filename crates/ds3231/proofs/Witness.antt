@@ -7,9 +7,11 @@ use mathlib.Core.Path.{_≡_, refl, sym, ap, ap₂, _∙_, subst}
 use native.Mathlib.Omega.{arith}
 use borrow.Author.Tests.{le-leb, le-ltb}
 use lib.Dec.{leb, lit<}
-use lib.ListN.{replicate, getD}
+use lib.ListN.{replicate}
 use Rattle.refusals.specs.Numbered.{accepted, refused}
 use Rattle.computed.specs.Choice.{if_then_else_}
+use Rattle.computed.specs.Entries.{entry}
+use Rattle.computed.proofs.Entries.{entry-is}
 use Rattle.calendar.specs.Stated.{InRange, dateTime, withDay, secondsOf, timeOf, monthLength, dayNumber}
 use Rattle.calendar.proofs.Laws.{in-range-accepted, time-of-seconds, seconds-below, seconds-formula, seconds-day, month-bounds}
 use Rattle.calendar.proofs.Examples.{examples}
@@ -133,7 +135,7 @@ pub record Answers (ks : List Call) (t r b : ℕ) : Type 0 where
   pub register : after config (chipOn config) ks .model .pointer ≡ r
   pub answers : answerTo config (chipOn config) (then-read ks t) condition ≡ accepted (replied (Byte b))
 
-read-at : (ks : List Call) (es : List Event) (t r b : ℕ) → fullyLent ks ≡ es → fedOn es .stage ≡ reads → fedOn es .pointer ≡ r → r ≤ 6 → getD (fedOn es .latched) r 0 ≡ b
+read-at : (ks : List Call) (es : List Event) (t r b : ℕ) → fullyLent ks ≡ es → fedOn es .stage ≡ reads → fedOn es .pointer ≡ r → r ≤ 6 → entry (fedOn es .latched) r ≡ b
     → T (rises 0 (es ++ (Read false t ∷ []))) → Answers ks t r b
 unfolding then-read store
 read-at ks es t r b e p q h l u =
@@ -157,9 +159,10 @@ read-at ks es t r b e p q h l u =
       at-the-end = refl;
       register = ap (λ (x : Model). x .pointer) m ∙ q;
       answers =
-          exact-time config (chipOn config) on (then-read ks t) .answers-model (subst (NeverFall 0) (sym f) (rises-never 0 _ u)) c
-          ∙ ap₂ (λ (x : List ℕ) (y : ℕ). accepted (replied (Byte (getD x y 0)))) (ap (λ (x : Model). x .latched) m) (ap (λ (x : Model). x .pointer) m ∙ q)
-          ∙ ap (λ (x : ℕ). accepted (replied (Byte x))) l;
+          let d = after config (chipOn config) ks .model in
+          let a = exact-time config (chipOn config) on (then-read ks t) .answers-model (subst (NeverFall 0) (sym f) (rises-never 0 _ u)) c in
+          a .1
+          ∙ ap (λ (x : ℕ). accepted (replied (Byte x))) (sym (entry-is (d .latched) (d .pointer) (a .0) (a .2)) ∙ ap₂ entry (ap (λ (x : Model). x .latched) m) (ap (λ (x : Model). x .pointer) m ∙ q) ∙ l);
     }
 
 -- ---- the times
@@ -195,7 +198,7 @@ unclamped d v =
 afternoon : DateTime
 afternoon = dateTime 2026 1 1 13 0 1
 
-case-day : getD (fedOn case .latched) 4 0 ≡ 0x01
+case-day : entry (fedOn case .latched) 4 ≡ 0x01
 unfolding case config afternoon bit toDigits fromDigits decimal inField plainMeaning dialMeaning monthMeaning meaning fieldByte timeBytes
 case-day =
     let v = first-of 13 0 1 (omega arith) (omega arith) (omega arith) in
@@ -252,8 +255,8 @@ readings (suc k) = readings k ++ (Read false (2_100_300_000 + k * 100_000) ∷ [
 pub story : ℕ → List Event
 story k = case ++ (case-end ++ (setting ++ readings k))
 
-set-byte : (k : ℕ) → getD (modelAfter (atRest (fedOn (case ++ case-end))) setting .latched) k 0 ≡ getD (0x56 ∷ 0x34 ∷ 0x72 ∷ 0x03 ∷ 0x28 ∷ 0x82 ∷ 0x24 ∷ []) k 0
-set-byte k = ap (λ (l : List ℕ). getD l k 0) (set-latched (fedOn (case ++ case-end)))
+set-byte : (k : ℕ) → entry (modelAfter (atRest (fedOn (case ++ case-end))) setting .latched) k ≡ entry (0x56 ∷ 0x34 ∷ 0x72 ∷ 0x03 ∷ 0x28 ∷ 0x82 ∷ 0x24 ∷ []) k
+set-byte k = ap (λ (l : List ℕ). entry l k) (set-latched (fedOn (case ++ case-end)))
 
 -- the READs of 0x00 to 0x06 answer the seven bytes that were written
 pub set-and-read :
@@ -275,7 +278,7 @@ set-and-read = (
   set-read 6 0x24 refl refl (omega arith) (set-byte 6) tt,
 )
   where
-    set-read : (k b : ℕ) → fedOn (story k) .stage ≡ reads → fedOn (story k) .pointer ≡ k → k ≤ 6 → getD (fedOn (story k) .latched) k 0 ≡ b
+    set-read : (k b : ℕ) → fedOn (story k) .stage ≡ reads → fedOn (story k) .pointer ≡ k → k ≤ 6 → entry (fedOn (story k) .latched) k ≡ b
         → T (rises 0 (story k ++ (Read false (2_100_300_000 + k * 100_000) ∷ []))) → Answers (on-store (story k)) (2_100_300_000 + k * 100_000) k b
     set-read k b = read-at (on-store (story k)) (story k) (2_100_300_000 + k * 100_000) k b (lent (story k))
 
@@ -330,7 +333,7 @@ later-in : InRange later
 unfolding later
 later-in = omega (arith, month-bounds 2124 2)
 
-wrap-second : (m : Model) → getD (modelAfter (atRest m) (setting ++ (readings 7 ++ (to-the-last ++ (Read false 5_000_300_000 ∷ [])))) .latched) 0 0 ≡ 0x59
+wrap-second : (m : Model) → entry (modelAfter (atRest m) (setting ++ (readings 7 ++ (to-the-last ++ (Read false 5_000_300_000 ∷ [])))) .latched) 0 ≡ 0x59
 unfolding readings setting set-time later to-the-last bit toDigits fromDigits decimal inField plainMeaning dialMeaning monthMeaning meaning fieldByte timeBytes
 wrap-second m =
     ap (λ (d : DateTime). toDigits (timeOf ((secondsOf (clamped d) * nanos + 0 + 3_000_100_000) % (range * nanos) / nanos) .second)) (date-set (timeOf (exact (atRest m) 2_000_200_000 / nanos)))

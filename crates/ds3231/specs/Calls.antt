@@ -9,11 +9,12 @@ use Rattle.diagnostics.specs.Reports.{report, countedAll, storedAll}
 use Rattle.diagnostics.specs.declared.I2cDiagnostic.{I2cDiagnostic}
 use Rattle.diagnostics.specs.declared.I2cDiagnosticKind.the-variants.{NotModelled, ReadOnly, NoSuchRegister, Undefined}
 use Rattle.ds3231.specs.Numbers.{range}
+use Rattle.ds3231.specs.Map.{numberOf, named}
 use Rattle.ds3231.specs.Clock.{timeAt, clockSet}
-use Rattle.ds3231.specs.Timing.{isDefined, shownAt, latch, inPhase, pointed, commit, accept, phaseFor}
+use Rattle.ds3231.specs.Timing.{isDefined, shownAt, latch, inPhase, pointed, pointedBy, commit, accept, phaseFor}
 use Rattle.ds3231.specs.Changed.{nextPointer}
 use Rattle.ds3231.specs.Registers.{byteAt, enablesOutput, registersWritten}
-use Rattle.ds3231.specs.Types.{PendingTime, Phase, Released, Pointer, Writing, Reading, Ignoring, Timing, Registers, Ds3231, Ds3231Config, Event, Start, Write, Read, Stop, Reply, Acknowledge, Byte, Done}
+use Rattle.ds3231.specs.Types.{PendingTime, Seconds, Named, One, None, Phase, Released, Pointer, Writing, Reading, Ignoring, Timing, Registers, Ds3231, Ds3231Config, Event, Start, Write, Read, Stop, Reply, Acknowledge, Byte, Done}
 
 -- ---- sound
 
@@ -24,11 +25,10 @@ soundTime t = isAccepted (checked (withDay 1 t)) && leb 1 (t .day) && leb (t .da
 unfoldable pub soundPending : PendingTime → Bool
 soundPending p = soundTime (p .time) && leb 1 (p .weekday) && leb (p .weekday) 7
 
--- 'The table of refusals': pointer at most 0x12, base seconds in range, offset at most 6, a pending time
+-- 'The table of refusals': base seconds in range, offset at most 6, a pending time; the pointer is at most 0x12 by its type (`number-below` of proofs/Map.antt)
 unfoldable pub soundTiming : Timing → Bool
 soundTiming c =
-    leb (c .pointer) 0x12 && ltb (c .clock .«base_seconds») range && leb (c .clock .«weekday_offset») 6
-    && (not (c .«is_pending») || soundPending (c .pending))
+    ltb (c .clock .«base_seconds») range && leb (c .clock .«weekday_offset») 6 && (not (c .«is_pending») || soundPending (c .pending))
 
 -- 'Register bytes': the quarters of a degree run from −512 to 511
 unfoldable pub inQuarters : ℤ → Bool
@@ -48,7 +48,7 @@ sound c = soundTiming (c .timing) && soundRegisters (c .registers) && leb (c .di
 -- 'Register bytes': power-on has pointer 0 and 24-hour mode; 'Shown time and exact time': the configured seconds at instant 0. What `pending` holds is left free, since no call shows it
 abbrev pub timingOn : Ds3231Config → Timing
 timingOn f =
-    latch 0 (record { phase = Released; pointer = 0; clock = clockSet (f .start) (weekdayOf (f .start)) 0; «twelve_hour» = false; latched = []; «is_pending» = false; pending = record { time = f .start; weekday = 1 }; «pending_at» = 0 })
+    latch 0 (record { phase = Released; pointer = Seconds; clock = clockSet (f .start) (weekdayOf (f .start)) 0; «twelve_hour» = false; latched = []; «is_pending» = false; pending = record { time = f .start; weekday = 1 }; «pending_at» = 0 })
 
 -- 'Register bytes': control 0x1C, status 0x08, or 0x88 where the oscillator had stopped; alarms and aging 0
 abbrev pub registersOn : Ds3231Config → Registers
@@ -94,13 +94,14 @@ nowAnswer c t = andThen (checkedChip c) (accepted (shownTime c t))
 abbrev pub droppedAnswer : Ds3231 → Numbered ℕ
 droppedAnswer c = andThen (checkedChip c) (accepted (c .diagnostics .dropped))
 
--- 'Register bytes': `register` uses the live time
-abbrev pub registerByte : Ds3231 → ℕ → ℕ → ℕ
-registerByte c r t = byteAt (shownAt (c .timing) t) (c .registers) r t
+-- 'Register bytes': `register` uses the live time; 'The table of refusals': 9, `register` above 0x12
+abbrev pub registerByte : Named → Ds3231 → ℕ → Numbered ℕ
+registerByte (One r) c t = accepted (byteAt (shownAt (c .timing) t) (c .registers) r t)
+registerByte None c t = refused 9 []
 
 -- 'The table of refusals': `register` 10, 9
 abbrev pub registerAnswer : Ds3231 → ℕ → ℕ → Numbered ℕ
-registerAnswer c r t = andThen (checkedChip c) (if leb r 0x12 then accepted (registerByte c r t) else refused 9 [])
+registerAnswer c n t = andThen (checkedChip c) (registerByte (named n) c t)
 
 -- ---- the bus events
 
@@ -117,6 +118,11 @@ commitReports t c =
     if c .«is_pending» && ltb (monthLength (c .pending .time .year) (c .pending .time .month)) (c .pending .time .day)
     then report t (Undefined 0x04 (toDigits (c .pending .time .day))) ∷ []
     else []
+
+-- 'Diagnostics': NOREGISTER (pointer byte)
+abbrev pub pointerReports : Named → ℕ → ℕ → List I2cDiagnostic
+pointerReports (One r) b t = []
+pointerReports None b t = report t (NoSuchRegister b) ∷ []
 
 -- 'Diagnostics': UNDEFINED (register, byte), NOTMODELLED (control byte) once per power-on, READONLY (0x11, 0x12)
 abbrev pub registerReports : ℕ → ℕ → ℕ → Registers → List I2cDiagnostic
@@ -145,15 +151,15 @@ written Released b t c = repliedOnly (Acknowledge false) c
 written Reading b t c = repliedOnly (Acknowledge false) c
 written Ignoring b t c = repliedOnly (Acknowledge true) c
 written Pointer b t c = record {
-  timing = if leb b 0x12 then inPhase Writing (pointed b (c .timing)) else inPhase Ignoring (c .timing);
+  timing = pointedBy (named b) (c .timing);
   registers = c .registers;
-  reports = if leb b 0x12 then [] else report t (NoSuchRegister b) ∷ [];
+  reports = pointerReports (named b) b t;
   reply = Acknowledge true;
 }
 written Writing b t c = record {
-  timing = pointed (nextPointer (c .timing .pointer)) (accept (meaning (c .timing .pointer) b) t (c .timing));
-  registers = registersWritten (c .timing .pointer) b t (c .registers);
-  reports = registerReports (c .timing .pointer) b t (c .registers);
+  timing = pointed (nextPointer (c .timing .pointer)) (accept (meaning (numberOf (c .timing .pointer)) b) t (c .timing));
+  registers = registersWritten (numberOf (c .timing .pointer)) b t (c .registers);
+  reports = registerReports (numberOf (c .timing .pointer)) b t (c .registers);
   reply = Acknowledge true;
 }
 
@@ -164,7 +170,7 @@ hasRead Pointer t c = repliedOnly (Byte 0xFF) c
 hasRead Writing t c = repliedOnly (Byte 0xFF) c
 hasRead Ignoring t c = repliedOnly (Byte 0xFF) c
 hasRead Reading t c = record {
-  timing = if leb 0x12 (c .timing .pointer) then latch t (pointed 0 (c .timing)) else pointed (c .timing .pointer + 1) (c .timing);
+  timing = let moved = pointed (nextPointer (c .timing .pointer)) (c .timing) in if leb 0x12 (numberOf (c .timing .pointer)) then latch t moved else moved;
   registers = c .registers;
   reports = [];
   reply = Byte (byteAt (c .timing .latched) (c .registers) (c .timing .pointer) t);

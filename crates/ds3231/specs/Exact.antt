@@ -1,5 +1,5 @@
 -- The exact time, 'Shown time and exact time' of document 01: no bus events whose instants never fall can, from power-on, put the shown time a whole second from the exact count of nanoseconds. One claim about any list of calls, refused ones included. Assumes nothing.
-use Rattle.computed.specs.Prelude.{ℕ, _+_, _*_, _≤_, _<_, Bool, true, false, List, [], _∷_, _++_, _≡_, eqb, length, getD, if_then_else_}
+use Rattle.computed.specs.Prelude.{ℕ, _+_, _*_, _≤_, _<_, Bool, true, false, List, [], _∷_, _++_, _≡_, eqb, length, At, if_then_else_}
 use Rattle.refusals.specs.Numbered.{Numbered, accepted, refused}
 use Rattle.calendar.specs.Stated.{InRange, secondsOf}
 use Rattle.calendar.specs.declared.DateTime.{DateTime}
@@ -105,9 +105,9 @@ module _ (f : Ds3231Config) (c₀ : Ds3231) where
     -- a READ of the time answers what `register` answers at the mark
     pub answers-register : (r : TimeRead calls) → let w = after (r .before) in
         (b : ℕ) × (answerTo calls r ≡ accepted (replied (Byte b))) × (registerAnswer (w .marked) (w .model .pointer) (w .at) ≡ accepted b)
-    -- if the instants never fall: that is the model's latched byte
+    -- if the instants never fall: that is the model's latched byte, the entry at its pointer
     pub answers-model : NeverFall 0 (events c₀ calls) → (r : TimeRead calls) → let m = after (r .before) .model in
-        answerTo calls r ≡ accepted (replied (Byte (getD (m .latched) (m .pointer) 0)))
+        (b : ℕ) × (answerTo calls r ≡ accepted (replied (Byte b))) × At (m .latched) (m .pointer) b
     -- and the chip's latched bytes are the model's
     pub latches : NeverFall 0 (events c₀ calls) → after calls .chip .timing .latched ≡ after calls .model .latched
     -- and `now` shows the exact count at any instant from the last event on

@@ -1,5 +1,6 @@
 pub mod Types
 pub mod Numbers
+pub mod Map
 pub mod Changed
 pub mod Clock
 pub mod Timing

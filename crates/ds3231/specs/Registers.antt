@@ -1,6 +1,6 @@
 -- The byte of a register, and the registers outside the time, 0x07 to 0x12: their bytes, and what a write does to them. Assumes nothing.
-use Rattle.computed.specs.Prelude.{ℕ, _+_, _*_, _-_, _%_, min, Bool, not, _&&_, _||_, List, leb, ltb, eqb, bitAnd, bitOr, getD, set, ℤ, pos, negsuc, shrZ, if_then_else_}
-use Rattle.ds3231.specs.Types.{Registers}
+use Rattle.computed.specs.Prelude.{ℕ, _+_, _*_, _-_, _%_, min, Bool, not, _&&_, _||_, List, leb, ltb, eqb, bitAnd, bitOr, entry, set, ℤ, pos, negsuc, shrZ, if_then_else_}
+use Rattle.ds3231.specs.Types.{Registers, Register, Seconds, Minutes, Hours, Weekday, Date, Month, Year, Alarm1Seconds, Alarm1Minutes, Alarm1Hours, Alarm1Day, Alarm2Minutes, Alarm2Hours, Alarm2Day, Control, Status, Aging, TemperatureMsb, TemperatureLsb}
 
 -- 'Register bytes': a conversion runs while the instant is below its end
 abbrev pub converting : Registers → ℕ → Bool
@@ -18,19 +18,27 @@ temperatureHigh q = lowByte (shrZ q 4)
 abbrev pub temperatureLow : ℤ → ℕ
 temperatureLow q = lowByte q % 4 * 64
 
--- 'Register bytes': 0x07 to 0x0D alarm bytes, 0x0E control, 0x0F status, 0x10 aging, 0x11 and 0x12 temperature; control bit 5 and status bit 2 read set while a conversion runs
-unfoldable pub otherByte : Registers → ℕ → ℕ → ℕ
-otherByte g r t =
-    if leb r 0x0D then getD (g .alarms) (r - 7) 0
-    else if eqb r 0x0E then bitOr (g .control) (if converting g t then 0x20 else 0)
-    else if eqb r 0x0F then bitOr (g .status) (if converting g t then 0x04 else 0)
-    else if eqb r 0x10 then g .aging
-    else if eqb r 0x11 then temperatureHigh (g .«temperature_quarters»)
-    else temperatureLow (g .«temperature_quarters»)
-
--- the byte of a register, from the seven bytes of the time at 0x00 to 0x06
-abbrev pub byteAt : List ℕ → Registers → ℕ → ℕ → ℕ
-byteAt bytes g r t = if leb r 0x06 then getD bytes r 0 else otherByte g r t
+-- 'Register bytes': the byte of a register at t, from the seven bytes of the time at 0x00 to 0x06; control bit 5 and status bit 2 read set while a conversion runs. Both arrays have seven entries, so that no lookup misses (`time-entry` and `alarm-entry` of proofs/RegisterBytes.antt)
+abbrev pub byteAt : List ℕ → Registers → Register → ℕ → ℕ
+byteAt time g Seconds t = entry time 0
+byteAt time g Minutes t = entry time 1
+byteAt time g Hours t = entry time 2
+byteAt time g Weekday t = entry time 3
+byteAt time g Date t = entry time 4
+byteAt time g Month t = entry time 5
+byteAt time g Year t = entry time 6
+byteAt time g Alarm1Seconds t = entry (g .alarms) 0
+byteAt time g Alarm1Minutes t = entry (g .alarms) 1
+byteAt time g Alarm1Hours t = entry (g .alarms) 2
+byteAt time g Alarm1Day t = entry (g .alarms) 3
+byteAt time g Alarm2Minutes t = entry (g .alarms) 4
+byteAt time g Alarm2Hours t = entry (g .alarms) 5
+byteAt time g Alarm2Day t = entry (g .alarms) 6
+byteAt time g Control t = bitOr (g .control) (if converting g t then 0x20 else 0)
+byteAt time g Status t = bitOr (g .status) (if converting g t then 0x04 else 0)
+byteAt time g Aging t = g .aging
+byteAt time g TemperatureMsb t = temperatureHigh (g .«temperature_quarters»)
+byteAt time g TemperatureLsb t = temperatureLow (g .«temperature_quarters»)
 
 -- 'Diagnostics': a control byte that is NOTMODELLED, bit 2 clear, or set with bit 0 or 1
 abbrev pub enablesOutput : ℕ → Bool

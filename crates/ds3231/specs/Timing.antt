@@ -4,7 +4,7 @@ use Rattle.calendar.specs.Stated.{nearest}
 use Rattle.fields.specs.Table.{Meaning, undefined, sets, timeBytes}
 use Rattle.ds3231.specs.Changed.{changedTime, changedWeekday, changedMode}
 use Rattle.ds3231.specs.Clock.{timeAt, weekdayAt, secondStart, clockSet}
-use Rattle.ds3231.specs.Types.{Clock, PendingTime, Phase, Released, Pointer, Reading, Timing}
+use Rattle.ds3231.specs.Types.{Clock, PendingTime, Register, Named, One, None, Phase, Released, Pointer, Writing, Reading, Ignoring, Timing}
 
 -- ---- an accepted byte, by what it says
 
@@ -44,8 +44,13 @@ latch t c = record { phase = c .phase; pointer = c .pointer; clock = c .clock; �
 abbrev pub inPhase : Phase → Timing → Timing
 inPhase p c = record { phase = p; pointer = c .pointer; clock = c .clock; «twelve_hour» = c .«twelve_hour»; latched = c .latched; «is_pending» = c .«is_pending»; pending = c .pending; «pending_at» = c .«pending_at» }
 
-abbrev pub pointed : ℕ → Timing → Timing
+abbrev pub pointed : Register → Timing → Timing
 pointed r c = record { phase = c .phase; pointer = r; clock = c .clock; «twelve_hour» = c .«twelve_hour»; latched = c .latched; «is_pending» = c .«is_pending»; pending = c .pending; «pending_at» = c .«pending_at» }
+
+-- 'Acknowledgements': the first written byte is the pointer; above 0x12 the following bytes are dropped, the pointer unmoved
+abbrev pub pointedBy : Named → Timing → Timing
+pointedBy (One r) c = inPhase Writing (pointed r c)
+pointedBy None c = inPhase Ignoring c
 
 -- 'Shown time and exact time': the pending time is applied. What `pending` and `pending_at` hold without one is left free: here they stay.
 abbrev pub commit : Timing → Timing

@@ -1,6 +1,10 @@
 -- Need not be believed: nothing is defined here. The structs and enums of src/lib.rt, under one name.
 pub use Rattle.ds3231.specs.declared.Clock.{Clock}
 pub use Rattle.ds3231.specs.declared.PendingTime.{PendingTime}
+pub use Rattle.ds3231.specs.declared.Register.{Register}
+pub use Rattle.ds3231.specs.declared.Register.the-variants.{Seconds, Minutes, Hours, Weekday, Date, Month, Year, Alarm1Seconds, Alarm1Minutes, Alarm1Hours, Alarm1Day, Alarm2Minutes, Alarm2Hours, Alarm2Day, Control, Status, Aging, TemperatureMsb, TemperatureLsb}
+pub use Rattle.ds3231.specs.declared.Named.{Named}
+pub use Rattle.ds3231.specs.declared.Named.the-variants.{One, None}
 pub use Rattle.ds3231.specs.declared.Phase.{Phase}
 pub use Rattle.ds3231.specs.declared.Phase.the-variants.{Released, Pointer, Writing, Reading, Ignoring}
 pub use Rattle.ds3231.specs.declared.Timing.{Timing}

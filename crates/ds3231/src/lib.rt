@@ -22,6 +22,35 @@ pub struct PendingTime {
     pub weekday: u8,
 }
 
+// The register map, 0x00 to 0x12. A pointer is one of these, so that a chip has no pointer past the last.
+pub enum Register {
+    Seconds,
+    Minutes,
+    Hours,
+    Weekday,
+    Date,
+    Month,
+    Year,
+    Alarm1Seconds,
+    Alarm1Minutes,
+    Alarm1Hours,
+    Alarm1Day,
+    Alarm2Minutes,
+    Alarm2Hours,
+    Alarm2Day,
+    Control,
+    Status,
+    Aging,
+    TemperatureMsb,
+    TemperatureLsb,
+}
+
+// What a number names: a register, or none where it is above 0x12.
+pub enum Named {
+    One(Register),
+    None,
+}
+
 // Where the chip stands in the transaction on the bus.
 pub enum Phase {
     // Not addressed.
@@ -40,7 +69,7 @@ pub enum Phase {
 // time begins at the instant `pending_at`.
 pub struct Timing {
     pub phase: Phase,
-    pub pointer: u8,
+    pub pointer: Register,
     pub clock: Clock,
     pub twelve_hour: bool,
     pub latched: [u8; 7],

@@ -5,6 +5,8 @@ use Rattle.calendar.specs.Answers.{refusedBy}
 use Rattle.calendar.specs.Stated.{dateTime}
 use Rattle.calendar.specs.declared.DateTime.{DateTime}
 use Rattle.ds3231.specs.declared.Phase.the-variants.{Released}
+use Rattle.ds3231.specs.declared.Register.the-variants.{Seconds}
+use Rattle.ds3231.specs.Numbers.{range}
 use Rattle.ds3231.specs.Calls.{powerOn}
 use Rattle.ds3231.specs.declared.Ds3231.{Ds3231}
 use Rattle.ds3231.specs.declared.Ds3231Config.{Ds3231Config}
@@ -17,10 +19,10 @@ use Rattle.ds3231_chip.specs.declared.DroppedResult as DroppedResult
 
 -- ---- power-on
 
--- the chip of a refused power-on, which document 01 leaves free: its pointer names no register, so that it is not sound, and every call on it gives 10
+-- the chip of a refused power-on, which document 01 leaves free: its base seconds are out of range, so that it is not sound, and every call on it gives 10
 abbrev pub noChip : Ds3231
 noChip = record {
-  timing = record { phase = Released; pointer = 0xFF; clock = record { «base_seconds» = 0; «base_at» = 0; «weekday_offset» = 0 }; «twelve_hour» = false; latched = replicate 7 0; «is_pending» = false; pending = record { time = dateTime 2000 1 1 0 0 0; weekday = 1 }; «pending_at» = 0 };
+  timing = record { phase = Released; pointer = Seconds; clock = record { «base_seconds» = range; «base_at» = 0; «weekday_offset» = 0 }; «twelve_hour» = false; latched = replicate 7 0; «is_pending» = false; pending = record { time = dateTime 2000 1 1 0 0 0; weekday = 1 }; «pending_at» = 0 };
   registers = record { alarms = replicate 7 0; control = 0; status = 0; «conversion_end» = 0; aging = 0; «temperature_quarters» = pos 0; «int_sqw_reported» = false };
   diagnostics = record { waiting = 0; dropped = 0 };
 }

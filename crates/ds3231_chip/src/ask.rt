@@ -7,9 +7,9 @@ use crate::NowResult;
 use crate::RegisterResult;
 use crate::sound::is_sound;
 use ds3231::Ds3231;
+use ds3231::Named;
 use ds3231_registers::clock;
 use ds3231_registers::registers;
-use ds3231_registers::registers::LAST_REGISTER;
 use ds3231_registers::timing;
 
 // The time at `at`.
@@ -31,13 +31,15 @@ pub fn register(chip: Ds3231, register: u8, at: u64) -> RegisterResult
     if !is_sound(chip) {
         return RegisterResult::NotSound;
     }
-    if register > LAST_REGISTER {
-        return RegisterResult::NoSuchRegister;
-    }
     let timing = chip.timing;
     let registers = chip.registers;
-    let time = timing::time_registers(timing, at);
-    RegisterResult::Ok(registers::register_byte(time, registers, register, at))
+    match ds3231_map::named(register) {
+        Named::One(register) => {
+            let time = timing::time_registers(timing, at);
+            RegisterResult::Ok(registers::register_byte(time, registers, register, at))
+        }
+        Named::None => RegisterResult::NoSuchRegister,
+    }
 }
 
 // How many reports were dropped because 256 were waiting.

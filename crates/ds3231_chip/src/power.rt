@@ -8,6 +8,7 @@ use crate::PowerOn;
 use crate::PowerOnAnswer;
 use crate::sound::in_quarters;
 use calendar::DateTime;
+use calendar::SECONDS_IN_RANGE;
 use calendar::SECONDS_PER_DAY;
 use calendar::Validity;
 use calendar::WEEKDAY_OF_2000_OFFSET;
@@ -18,6 +19,7 @@ use ds3231::Ds3231;
 use ds3231::Ds3231Config;
 use ds3231::PendingTime;
 use ds3231::Phase;
+use ds3231::Register;
 use ds3231::Registers;
 use ds3231::Timing;
 use ds3231_registers::clock;
@@ -87,7 +89,7 @@ fn timing_on(config: Ds3231Config) -> Timing
     let latched = timing::shown(clock, false, 0);
     Timing {
         phase: Phase::Released,
-        pointer: 0,
+        pointer: Register::Seconds,
         clock,
         twelve_hour: false,
         latched,
@@ -142,7 +144,7 @@ fn status_on(oscillator_stopped: bool) -> u8
     }
 }
 
-// The chip of a refused power-on, which is not sound: its pointer names no register.
+// The chip of a refused power-on, which is not sound: its base seconds are out of range.
 fn no_chip() -> Ds3231
     ensures { λ r. ⌜ r ≡ noChip ⌝ }
 {
@@ -172,7 +174,7 @@ fn no_timing() -> Timing
     ensures { λ r. ⌜ r ≡ noChip .timing ⌝ }
 {
     let clock = Clock {
-        base_seconds: 0,
+        base_seconds: SECONDS_IN_RANGE,
         base_at: 0,
         weekday_offset: 0,
     };
@@ -187,7 +189,7 @@ fn no_timing() -> Timing
     let latched = [0; 7];
     Timing {
         phase: Phase::Released,
-        pointer: 0xFF,
+        pointer: Register::Seconds,
         clock,
         twelve_hour: false,
         latched,

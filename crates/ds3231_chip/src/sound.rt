@@ -9,7 +9,6 @@ use ds3231::PendingTime;
 use ds3231::Registers;
 use ds3231::Timing;
 use ds3231_registers::registers::CONV;
-use ds3231_registers::registers::LAST_REGISTER;
 
 // The status bits that the chip keeps: OSF, EN32kHz, A2F and A1F.
 const STATUS_BITS: u8 = 0x8B;
@@ -36,13 +35,13 @@ fn sound_pending(pending: PendingTime) -> bool
     sound_time(time) & (1 <= pending.weekday) & (pending.weekday <= 7)
 }
 
+// The pointer is at most 0x12 by its type.
 fn sound_timing(timing: Timing) -> bool
     ensures { λ r. ⌜ r ≡ soundTiming timing ⌝ }
 {
     let clock = timing.clock;
     let pending = timing.pending;
-    (timing.pointer <= LAST_REGISTER)
-        & (clock.base_seconds < SECONDS_IN_RANGE)
+    (clock.base_seconds < SECONDS_IN_RANGE)
         & (clock.weekday_offset <= 6)
         & (!timing.is_pending | sound_pending(pending))
 }

@@ -61,19 +61,10 @@ pub fn set(time: DateTime, weekday: u8, base_at: u64) -> Clock
     }
 }
 
-// The offset, 0 to 6, with which the day `days` after 2000-01-01 has the weekday.
+// The offset, 0 to 6, with which the day `days` after 2000-01-01 has the weekday: modulo 7, the weekday less 1 is the weekday
+// plus 6.
 fn offset_for(weekday: u8, days: u64) -> u64
     ensures { λ r. ⌜ r ≡ offsetFor weekday days ⌝ }
 {
-    (days_after_monday(weekday) + DAYS_PER_WEEK - days % DAYS_PER_WEEK) % DAYS_PER_WEEK
-}
-
-// The days from Monday to a weekday of 1 to 7, and 0 for a weekday of 0.
-fn days_after_monday(weekday: u8) -> u64
-    ensures { λ r. ⌜ r ≡ weekday - 1 ⌝ }
-{
-    if weekday == 0 {
-        return 0;
-    }
-    weekday as u64 - 1
+    (weekday as u64 + 6 + DAYS_PER_WEEK - days % DAYS_PER_WEEK) % DAYS_PER_WEEK
 }

@@ -1,14 +1,15 @@
 // The byte of a register, and what a byte written makes of the registers outside the time, 0x07 to 0x12.
 ghost use mathlib.Core.Path.{_≡_};
-ghost use Prim.Native.Nat.{_+_, _-_, min};
+ghost use Prim.Native.Nat.{_+_, min};
 ghost use Rattle.computed.specs.Choice.{if_then_else_};
-ghost use Rattle.ds3231.specs.Registers.{converting, lowByte, temperatureHigh, temperatureLow, otherByte, enablesOutput, startsConversion, byteAt, controlWritten, registersWritten};
+ghost use Rattle.ds3231.specs.Registers.{converting, lowByte, temperatureHigh, temperatureLow, enablesOutput, startsConversion, byteAt, controlWritten, registersWritten};
+use ds3231::Register;
 use ds3231::Registers;
 pub use fields::DATE;
 pub use fields::SECONDS;
 pub use fields::YEAR;
 
-// The register map after the time.
+// Numbers of registers after the time.
 const ALARM_FIRST: u8 = 0x07;
 
 const ALARM_LAST: u8 = 0x0D;
@@ -20,11 +21,6 @@ const STATUS: u8 = 0x0F;
 const AGING: u8 = 0x10;
 
 pub const TEMPERATURE_MSB: u8 = 0x11;
-
-const TEMPERATURE_LSB: u8 = 0x12;
-
-// Past it the pointer goes to 0x00.
-pub const LAST_REGISTER: u8 = TEMPERATURE_LSB;
 
 // Control.
 pub const CONV: u8 = 0x20;
@@ -55,45 +51,33 @@ const NANOS_PER_MILLISECOND: u64 = 1_000_000;
 const CONVERSION_NANOS: u64 = 200 * NANOS_PER_MILLISECOND;
 
 // The byte of a register, from the seven bytes of the time registers, live or latched.
-pub fn register_byte(time: [u8; 7], registers: Registers, register: u8, at: u64) -> u8
+pub fn register_byte(time: [u8; 7], registers: Registers, register: Register, at: u64) -> u8
     ensures { λ r. ⌜ r ≡ byteAt time registers register at ⌝ }
 {
-    if register <= YEAR {
-        let index = register as usize;
-        return time[index];
-    }
-    other_register(registers, register, at)
-}
-
-// A register outside the time: alarms, control, status, aging and temperature. Of a number below 0x07 it is the first
-// alarm byte, and of one above 0x12 the last register.
-fn other_register(registers: Registers, register: u8, at: u64) -> u8
-    ensures { λ r. ⌜ r ≡ otherByte registers register at ⌝ }
-{
     let converting = converting(registers, at);
+    let alarms = registers.alarms;
     let quarters = registers.temperature_quarters;
     match register {
-        0..=ALARM_LAST => {
-            let slot = alarm_slot(register);
-            let alarms = registers.alarms;
-            alarms[slot]
-        }
-        CONTROL => registers.control | bits_if(converting, CONV),
-        STATUS => registers.status | bits_if(converting, BSY),
-        AGING => registers.aging,
-        TEMPERATURE_MSB => temperature_high(quarters),
-        _ => temperature_low(quarters),
+        Register::Seconds => time[0],
+        Register::Minutes => time[1],
+        Register::Hours => time[2],
+        Register::Weekday => time[3],
+        Register::Date => time[4],
+        Register::Month => time[5],
+        Register::Year => time[6],
+        Register::Alarm1Seconds => alarms[0],
+        Register::Alarm1Minutes => alarms[1],
+        Register::Alarm1Hours => alarms[2],
+        Register::Alarm1Day => alarms[3],
+        Register::Alarm2Minutes => alarms[4],
+        Register::Alarm2Hours => alarms[5],
+        Register::Alarm2Day => alarms[6],
+        Register::Control => registers.control | bits_if(converting, CONV),
+        Register::Status => registers.status | bits_if(converting, BSY),
+        Register::Aging => registers.aging,
+        Register::TemperatureMsb => temperature_high(quarters),
+        Register::TemperatureLsb => temperature_low(quarters),
     }
-}
-
-// The place of an alarm register among the seven.
-fn alarm_slot(register: u8) -> usize
-    ensures { λ r. ⌜ r ≡ register - 7 ⌝ }
-{
-    if register < ALARM_FIRST {
-        return 0;
-    }
-    (register - ALARM_FIRST) as usize
 }
 
 // The bits of a mask where they are set, else none.

@@ -9,12 +9,11 @@ ghost use Rattle.ds3231.specs.Clock.{timeAt, weekdayAt, secondStart};
 ghost use Rattle.ds3231.specs.Timing.{isDefined, setsSeconds, opened as openedAt, noted as notedBy, shownAt, pointed, accept as acceptAt, commit as committed};
 ghost use Rattle.ds3231.specs.Changed.{changedTime, changedWeekday, changedMode, nextPointer};
 use crate::clock;
-use crate::registers::LAST_REGISTER;
-use crate::registers::SECONDS;
 use calendar::DateTime;
 use ds3231::Clock;
 use ds3231::PendingTime;
 use ds3231::Timing;
+use ds3231_map::next;
 use fields::Decoded;
 use fields::Field;
 use fields::YEARS_PER_CENTURY;
@@ -55,6 +54,7 @@ pub fn accept(timing: Timing, decoded: Decoded, at: u64) -> Timing
     ensures { λ r. ⌜ r ≡ pointed (nextPointer (timing .pointer)) (acceptAt (decodedMeaning decoded) at timing) ⌝ }
 {
     let phase = timing.phase;
+    let pointer = timing.pointer;
     let clock = timing.clock;
     let latched = timing.latched;
     let mut twelve_hour = timing.twelve_hour;
@@ -69,24 +69,13 @@ pub fn accept(timing: Timing, decoded: Decoded, at: u64) -> Timing
     }
     Timing {
         phase,
-        pointer: next(timing.pointer),
+        pointer: next(pointer),
         clock,
         twelve_hour,
         latched,
         is_pending,
         pending,
         pending_at,
-    }
-}
-
-// The pointer after a register: up by one, from 0x12 to 0x00.
-pub fn next(register: u8) -> u8
-    ensures { λ r. ⌜ r ≡ nextPointer register ⌝ }
-{
-    if register >= LAST_REGISTER {
-        SECONDS
-    } else {
-        register + 1
     }
 }
 

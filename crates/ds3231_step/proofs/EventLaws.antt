@@ -1,15 +1,17 @@
 -- A step that is chosen by a value, known to be another: the phase of a WRITE and a READ, and the event; a READ that finds the chip not addressed for reading; and where the pointer goes to 0.
 -- Assumes nothing.
-use Prim.Native.Nat.{ℕ, _+_}
+use Prim.Native.Nat.{ℕ}
 use mathlib.Core.Bool.{Bool, true, false}
-use mathlib.Core.Path.{_≡_, refl, sym, subst}
+use mathlib.Core.Path.{_≡_, refl, sym, subst, _∙_}
 use native.Mathlib.Omega.{arith}
 use lib.Dec.{leb}
-use Rattle.computed.specs.Choice.{if_then_else_}
+use Rattle.ds3231.specs.Map.{numberOf}
 use Rattle.ds3231.specs.Changed.{nextPointer}
+use Rattle.ds3231.proofs.Map.{wrapping}
 use Rattle.ds3231.specs.Calls.{Step, repliedOnly, hasRead}
 use Rattle.ds3231.specs.declared.Ds3231.{Ds3231}
 use Rattle.ds3231.specs.declared.Phase.{Phase}
+use Rattle.ds3231.specs.declared.Register.{Register}
 use Rattle.ds3231.specs.declared.Reply.the-variants.{Byte}
 use Rattle.ds3231_step.specs.Answers.{SteppedBy}
 use Rattle.ds3231_step.specs.declared.Report.the-variants.{None}
@@ -24,17 +26,9 @@ not-driven p t c r n e q =
     stepped-at (λ (x : Phase). hasRead x t c) c r e
     (subst (λ (s : Step). SteppedBy s c r) (sym n) (subst (SteppedBy (repliedOnly (Byte 0xFF) c) c) (sym q) (record { chip = refl; reply = refl; reports = refl })))
 
--- the pointer goes to 0 from 0x12 alone
-pub wraps : (r n : ℕ) → n ≡ nextPointer r → n ≡ 0 → leb 0x12 r ≡ true
-wraps r n e z = by (leb 0x12 r) e
-  where
-    by : (b : Bool) → n ≡ (if b then 0 else r + 1) → b ≡ true
-    by true h = refl
-    by false h = absurd (omega arith)
+-- the pointer goes to 0x00 from 0x12 alone
+pub wraps : (r : Register) (n : ℕ) → n ≡ numberOf (nextPointer r) → n ≡ 0 → leb 0x12 (numberOf r) ≡ true
+wraps r n e z = wrapping (λ (b : Bool). b ≡ true) r (λ q. refl) (λ q. absurd (omega arith))
 
-pub goes-on : (r n : ℕ) → n ≡ nextPointer r → (n ≡ 0 → ⊥) → leb 0x12 r ≡ false
-goes-on r n e z = by (leb 0x12 r) e
-  where
-    by : (b : Bool) → n ≡ (if b then 0 else r + 1) → b ≡ false
-    by true h = absurd (z h)
-    by false h = refl
+pub goes-on : (r : Register) (n : ℕ) → n ≡ numberOf (nextPointer r) → (n ≡ 0 → ⊥) → leb 0x12 (numberOf r) ≡ false
+goes-on r n e z = wrapping (λ (b : Bool). b ≡ false) r (λ q. absurd (z (e ∙ q))) (λ q. refl)

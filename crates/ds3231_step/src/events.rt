@@ -13,11 +13,11 @@ use crate::reports::pointer_report;
 use crate::reports::register_report;
 use ds3231::Ds3231;
 use ds3231::Event;
+use ds3231::Named;
 use ds3231::Phase;
 use ds3231::Reply;
 use ds3231::Timing;
 use ds3231_registers::registers;
-use ds3231_registers::registers::LAST_REGISTER;
 use ds3231_registers::registers::SECONDS;
 use ds3231_registers::registers::YEAR;
 use ds3231_registers::timing;
@@ -48,12 +48,13 @@ fn start(chip: Ds3231, address: u8, read: bool, at: u64) -> Stepped
     ensures { λ r. ⌜ SteppedBy (started address read at chip) chip r ⌝ }
 {
     let before = chip.timing;
+    let pointer = before.pointer;
     let pending = before.pending;
     let clock = timing::commit(before);
     let latched = timing::shown(clock, before.twelve_hour, at);
     let after = Timing {
         phase: addressed(address, read),
-        pointer: before.pointer,
+        pointer,
         clock,
         twelve_hour: before.twelve_hour,
         latched,
@@ -115,9 +116,9 @@ fn write_pointer(chip: Ds3231, byte: u8, at: u64) -> Stepped
     let pending = before.pending;
     let mut phase = Phase::Ignoring;
     let mut pointer = before.pointer;
-    if byte <= LAST_REGISTER {
+    if let Named::One(register) = ds3231_map::named(byte) {
         phase = Phase::Writing;
-        pointer = byte;
+        pointer = register;
     }
     let after = Timing {
         phase,
@@ -143,7 +144,8 @@ fn write_register(chip: Ds3231, byte: u8, at: u64) -> Stepped
 {
     let before = chip.timing;
     let counts = chip.diagnostics;
-    let register = before.pointer;
+    let pointer = before.pointer;
+    let register = ds3231_map::number(pointer);
     let decoded = fields::decode(register, byte);
     let mut registers = chip.registers;
     let report = register_report(timing::is_defined(decoded), registers, register, byte, at);
@@ -178,8 +180,8 @@ fn read(chip: Ds3231, at: u64) -> Stepped
     match phase {
         Phase::Reading => {
             byte = registers::register_byte(latched, registers, pointer, at);
-            pointer = timing::next(pointer);
-            if pointer == SECONDS {
+            pointer = ds3231_map::next(pointer);
+            if ds3231_map::number(pointer) == SECONDS {
                 latched = timing::shown(clock, before.twelve_hour, at);
             }
         }
@@ -210,11 +212,12 @@ fn stop(chip: Ds3231, at: u64) -> Stepped
     ensures { λ r. ⌜ SteppedBy (stopped at chip) chip r ⌝ }
 {
     let before = chip.timing;
+    let pointer = before.pointer;
     let pending = before.pending;
     let latched = before.latched;
     let after = Timing {
         phase: Phase::Released,
-        pointer: before.pointer,
+        pointer,
         clock: timing::commit(before),
         twelve_hour: before.twelve_hour,
         latched,

@@ -2,14 +2,14 @@
 ghost use mathlib.Core.Bool.{not, _&&_};
 ghost use mathlib.Core.List.{[], _∷_};
 ghost use mathlib.Core.Path.{_≡_};
-ghost use lib.Dec.{leb};
 ghost use Rattle.computed.specs.Choice.{if_then_else_};
 ghost use Rattle.diagnostics.specs.Reports.{report, countedAll};
-ghost use Rattle.diagnostics.specs.declared.I2cDiagnosticKind.the-variants.{NotModelled, NoSuchRegister, Undefined};
+ghost use Rattle.diagnostics.specs.declared.I2cDiagnosticKind.the-variants.{NotModelled, Undefined};
 ghost use Rattle.fields.specs.Table.{meaning};
+ghost use Rattle.ds3231.specs.Map.{named};
 ghost use Rattle.ds3231.specs.Timing.{isDefined};
 ghost use Rattle.ds3231.specs.Registers.{enablesOutput};
-ghost use Rattle.ds3231.specs.Calls.{commitReports, registerReports};
+ghost use Rattle.ds3231.specs.Calls.{commitReports, pointerReports, registerReports};
 ghost use Rattle.ds3231_step.specs.Answers.{reportsOf};
 use crate::Report;
 use calendar::days_in_month;
@@ -18,11 +18,11 @@ use diagnostics::Diagnostics;
 use diagnostics::I2cDiagnostic;
 use diagnostics::I2cDiagnosticKind;
 use diagnostics::one_more;
+use ds3231::Named;
 use ds3231::Registers;
 use ds3231::Timing;
 use ds3231_registers::registers::CONTROL;
 use ds3231_registers::registers::DATE;
-use ds3231_registers::registers::LAST_REGISTER;
 use ds3231_registers::registers::TEMPERATURE_MSB;
 use ds3231_registers::registers::YEAR;
 use ds3231_registers::registers::enables_output;
@@ -107,14 +107,14 @@ pub(crate) fn commit_report(timing: Timing, at: u64) -> Report
     Report::None
 }
 
-// A register pointer past the last register is reported.
+// A register pointer that names no register is reported.
 pub(crate) fn pointer_report(byte: u8, at: u64) -> Report
-    ensures { λ r. ⌜ reportsOf r ≡ (if leb byte 0x12 then [] else report at (NoSuchRegister byte) ∷ []) ⌝ }
+    ensures { λ r. ⌜ reportsOf r ≡ pointerReports (named byte) byte at ⌝ }
 {
-    if byte > LAST_REGISTER {
-        return report(at, I2cDiagnosticKind::NoSuchRegister { register: byte });
+    match ds3231_map::named(byte) {
+        Named::One(_) => Report::None,
+        Named::None => report(at, I2cDiagnosticKind::NoSuchRegister { register: byte }),
     }
-    Report::None
 }
 
 // The counts after a report: it waits in the store, or is dropped where the store is full.

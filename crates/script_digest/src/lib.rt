@@ -38,6 +38,7 @@ fn chip_number(chip: Ds3231) -> u64 {
 
 fn timing_number(timing: Timing) -> u64 {
     let phase = timing.phase;
+    let pointer = timing.pointer;
     let clock = timing.clock;
     let latched = timing.latched;
     let pending = timing.pending;
@@ -45,7 +46,7 @@ fn timing_number(timing: Timing) -> u64 {
     let is_pending = flag(timing.is_pending);
     let small = seven(
         phase_number(phase),
-        timing.pointer,
+        ds3231_map::number(pointer),
         twelve_hour,
         is_pending,
         0,

@@ -10,4 +10,4 @@ unfolding offsetFor
 returns c = search needs
 
 pub offset-for-spec : {M : Type 1} → statement M
-offset-for-spec = tie.close (tie.spec (λ c κs. search needs) (λ c. search needs) (λ c. search needs) returns)
+offset-for-spec = tie.close (tie.spec (λ c. search needs) (λ c. search needs) (λ c. search needs) returns)

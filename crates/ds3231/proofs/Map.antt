@@ -8,7 +8,6 @@ use mathlib.Core.Path.{_≡_, refl, sym, ap, subst, _∙_}
 use native.Mathlib.Omega.{arith}
 use borrow.Author.Tests.{eqb-true, leb-true, leb-false, lt-ltb, le-ltb}
 use lib.Dec.{T, leb, ltb, eqb}
-use lib.ListN.{getD}
 use Rattle.computed.specs.Choice.{if_then_else_}
 use Rattle.computed.specs.Entries.{At}
 use Rattle.computed.proofs.Choice.{le-or-lt}
@@ -65,10 +64,6 @@ at-one (x ∷ l) (suc i) r s a b = at-one l i r s a b
 pub number-one : (r s : Register) → numberOf r ≡ numberOf s → r ≡ s
 number-one r s e = at-one registerMap (numberOf s) r s (subst (λ (n : ℕ). At registerMap n r) e (in-map r)) (in-map s)
 
--- entry n of the map has the number n
-pub in-place : (d : Register) (n : ℕ) → n ≤ 0x12 → numberOf (getD registerMap n d) ≡ n
-in-place d n h = each (λ k. eq (numberOf (getD registerMap k d)) k) 0 19 tt n (omega arith) (omega arith)
-
 -- ---- what a number names
 
 found : (l : List Register) (n : ℕ) (r : Register) → namedIn l n ≡ One r → numberOf r ≡ n
@@ -120,3 +115,18 @@ wrapping P r f g = by (leb 0x12 (numberOf r)) refl
     by : (b : Bool) → leb 0x12 (numberOf r) ≡ b → P b
     by true e = f (moved false (le-ltb (numberOf r) 0x12 (leb-true 0x12 (numberOf r) e)))
     by false e = g (moved true (lt-ltb (numberOf r) 0x12 (leb-false 0x12 (numberOf r) e)))
+
+-- it is what the next number names, or the first register where that names none
+abbrev pub orFirst : Named → Register
+orFirst (One r) = r
+orFirst None = Seconds
+
+pub next-named : (r : Register) → orFirst (named (numberOf r + 1)) ≡ nextPointer r
+next-named r = by (named (numberOf r + 1)) (named-names (numberOf r + 1))
+  where
+    at : (b : Bool) → ltb (numberOf r) 0x12 ≡ b → (if b then numberOf r + 1 else 0) ≡ numberOf (nextPointer r)
+    at b e = ap (λ (x : Bool). if x then numberOf r + 1 else 0) (sym e) ∙ next-moved r
+
+    by : (d : Named) → Names (numberOf r + 1) d → orFirst d ≡ nextPointer r
+    by (One s) e = let z = number-below s in number-one s (nextPointer r) (e ∙ at true (lt-ltb (numberOf r) 0x12 (omega arith)))
+    by None h = number-one Seconds (nextPointer r) (at false (le-ltb (numberOf r) 0x12 (omega arith)))

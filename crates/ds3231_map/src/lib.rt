@@ -5,32 +5,6 @@ ghost use Rattle.ds3231.specs.Changed.{nextPointer};
 use ds3231::Named;
 use ds3231::Register;
 
-// The registers in the order of their numbers.
-const MAP: [Register; 19] = [
-    Register::Seconds,
-    Register::Minutes,
-    Register::Hours,
-    Register::Weekday,
-    Register::Date,
-    Register::Month,
-    Register::Year,
-    Register::Alarm1Seconds,
-    Register::Alarm1Minutes,
-    Register::Alarm1Hours,
-    Register::Alarm1Day,
-    Register::Alarm2Minutes,
-    Register::Alarm2Hours,
-    Register::Alarm2Day,
-    Register::Control,
-    Register::Status,
-    Register::Aging,
-    Register::TemperatureMsb,
-    Register::TemperatureLsb,
-];
-
-// The number of the last.
-const LAST: u8 = 0x12;
-
 // The number of a register.
 pub fn number(register: Register) -> u8
     ensures { λ r. ⌜ r ≡ numberOf register ⌝ }
@@ -62,38 +36,36 @@ pub fn number(register: Register) -> u8
 pub fn named(number: u8) -> Named
     ensures { λ r. ⌜ r ≡ namedBy number ⌝ }
 {
-    if number > LAST {
-        return Named::None;
+    match number {
+        0x00 => Named::One(Register::Seconds),
+        0x01 => Named::One(Register::Minutes),
+        0x02 => Named::One(Register::Hours),
+        0x03 => Named::One(Register::Weekday),
+        0x04 => Named::One(Register::Date),
+        0x05 => Named::One(Register::Month),
+        0x06 => Named::One(Register::Year),
+        0x07 => Named::One(Register::Alarm1Seconds),
+        0x08 => Named::One(Register::Alarm1Minutes),
+        0x09 => Named::One(Register::Alarm1Hours),
+        0x0A => Named::One(Register::Alarm1Day),
+        0x0B => Named::One(Register::Alarm2Minutes),
+        0x0C => Named::One(Register::Alarm2Hours),
+        0x0D => Named::One(Register::Alarm2Day),
+        0x0E => Named::One(Register::Control),
+        0x0F => Named::One(Register::Status),
+        0x10 => Named::One(Register::Aging),
+        0x11 => Named::One(Register::TemperatureMsb),
+        0x12 => Named::One(Register::TemperatureLsb),
+        _ => Named::None,
     }
-    let i = number as usize;
-    let map = MAP;
-    let register = map[i];
-    Named::One(register)
 }
 
-// The register after another, and after the last the first.
+// The register after another: the one of the next number, and after the last the first.
 pub fn next(register: Register) -> Register
     ensures { λ r. ⌜ r ≡ nextPointer register ⌝ }
 {
-    match register {
-        Register::Seconds => Register::Minutes,
-        Register::Minutes => Register::Hours,
-        Register::Hours => Register::Weekday,
-        Register::Weekday => Register::Date,
-        Register::Date => Register::Month,
-        Register::Month => Register::Year,
-        Register::Year => Register::Alarm1Seconds,
-        Register::Alarm1Seconds => Register::Alarm1Minutes,
-        Register::Alarm1Minutes => Register::Alarm1Hours,
-        Register::Alarm1Hours => Register::Alarm1Day,
-        Register::Alarm1Day => Register::Alarm2Minutes,
-        Register::Alarm2Minutes => Register::Alarm2Hours,
-        Register::Alarm2Hours => Register::Alarm2Day,
-        Register::Alarm2Day => Register::Control,
-        Register::Control => Register::Status,
-        Register::Status => Register::Aging,
-        Register::Aging => Register::TemperatureMsb,
-        Register::TemperatureMsb => Register::TemperatureLsb,
-        Register::TemperatureLsb => Register::Seconds,
+    match named(number(register) + 1) {
+        Named::One(next) => next,
+        Named::None => Register::Seconds,
     }
 }

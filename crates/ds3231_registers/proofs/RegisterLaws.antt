@@ -1,7 +1,9 @@
 -- The low byte of a signed number as the code reads it, what a byte written to an alarm register makes of the registers, and that one written to a register of the time or of the temperature changes nothing.
 -- Assumes nothing.
 use Prim.Native.Nat.{ℕ, suc, _-_, _%_, _≤_, _<_}
-use mathlib.Core.Bool.{true, false}
+use mathlib.Core.Bool.{Bool, true, false, _&&_}
+use mathlib.Core.List.{List, [], _∷_}
+use mathlib.Core.Logic.{inl, inr}
 use mathlib.Core.Path.{_≡_, refl, sym, ap, subst, _∙_}
 use native.Mathlib.Nat.{lt-of-le-of-lt}
 use native.Mathlib.Omega.{arith}
@@ -12,7 +14,14 @@ use mir.Facts.{toZ-ofZ, fits-natAbs}
 use mir.Syntax.{w16}
 use mir.Val.{Fits, SFits, toZ, ofZ}
 use borrow.Author.Tests.{le-leb, lt-leb, ne-eqb, ltb-true, le-ltb}
+use types.Run.{OneOf}
+use denote.Enum.Declared.{tagOf}
 use Rattle.computed.proofs.Choice.{both-false}
+use Rattle.computed.proofs.Claim.{eq, le, and, holds, means, first, rest}
+use Rattle.ds3231.specs.Map.{numberOf}
+use Rattle.ds3231.specs.declared.Register.{Register}
+use Rattle.ds3231.proofs.Register as R
+use Rattle.ds3231.proofs.Map.{each-register}
 use Rattle.ds3231.specs.Registers.{lowByte, alarmWritten, registersWritten}
 use Rattle.ds3231.specs.declared.Registers.{Registers}
 
@@ -69,6 +78,29 @@ module _ (z : ℤ) (f : SFits w16 z) where
 
     pub low-of-natural : natAbs (back z) % 256 ≡ lowByte z
     low-of-natural = ap (λ (k : ℤ). natAbs k % 256) natural-back ∙ sym (ap lowByte natural)
+
+-- ---- the arms of a match on a register
+
+-- the keys of an arm are from lo to hi
+abbrev keysIn : ℕ → ℕ → List ℕ → Bool
+keysIn lo hi [] = true
+keysIn lo hi (k ∷ ks) = holds (and (le lo k) (le k hi)) && keysIn lo hi ks
+
+one-key : (lo hi k x : ℕ) → T (holds (and (le lo k) (le k hi))) → x ≡ k → (lo ≤ x) × (x ≤ hi)
+one-key lo hi k x t e = let m = means (and (le lo k) (le k hi)) t in (omega (arith, m .0), omega (arith, m .1))
+
+keys-in : (lo hi : ℕ) (ks : List ℕ) (x : ℕ) → T (keysIn lo hi ks) → OneOf ks x → (lo ≤ x) × (x ≤ hi)
+keys-in lo hi [] x t o = absurd o
+keys-in lo hi (k ∷ []) x t o = one-key lo hi k x (first (holds (and (le lo k) (le k hi))) true t) o
+keys-in lo hi (k ∷ (j ∷ ks)) x t (inl e) = one-key lo hi k x (first (holds (and (le lo k) (le k hi))) (keysIn lo hi (j ∷ ks)) t) e
+keys-in lo hi (k ∷ (j ∷ ks)) x t (inr o) = keys-in lo hi (j ∷ ks) x (rest (holds (and (le lo k) (le k hi))) (keysIn lo hi (j ∷ ks)) t) o
+
+-- a register stands in its enum at its number
+tag-number : (r : Register) → tagOf R.the-type r ≡ numberOf r
+tag-number = each-register (λ r. eq (tagOf R.the-type r) (numberOf r)) tt
+
+pub arm-in : (lo hi : ℕ) (ks : List ℕ) (r : Register) → T (keysIn lo hi ks) → OneOf ks (tagOf R.the-type r) → (lo ≤ numberOf r) × (numberOf r ≤ hi)
+arm-in lo hi ks r t o = subst (λ (x : ℕ). (lo ≤ x) × (x ≤ hi)) (tag-number r) (keys-in lo hi ks (tagOf R.the-type r) t o)
 
 -- ---- a byte written
 

@@ -54,24 +54,25 @@ const CONVERSION_NANOS: u64 = 200 * NANOS_PER_MILLISECOND;
 pub fn register_byte(time: [u8; 7], registers: Registers, register: Register, at: u64) -> u8
     ensures { λ r. ⌜ r ≡ byteAt time registers register at ⌝ }
 {
+    let number = ds3231_map::number(register) as usize;
     let converting = converting(registers, at);
     let alarms = registers.alarms;
     let quarters = registers.temperature_quarters;
     match register {
-        Register::Seconds => time[0],
-        Register::Minutes => time[1],
-        Register::Hours => time[2],
-        Register::Weekday => time[3],
-        Register::Date => time[4],
-        Register::Month => time[5],
-        Register::Year => time[6],
-        Register::Alarm1Seconds => alarms[0],
-        Register::Alarm1Minutes => alarms[1],
-        Register::Alarm1Hours => alarms[2],
-        Register::Alarm1Day => alarms[3],
-        Register::Alarm2Minutes => alarms[4],
-        Register::Alarm2Hours => alarms[5],
-        Register::Alarm2Day => alarms[6],
+        Register::Seconds
+        | Register::Minutes
+        | Register::Hours
+        | Register::Weekday
+        | Register::Date
+        | Register::Month
+        | Register::Year => time[number],
+        Register::Alarm1Seconds
+        | Register::Alarm1Minutes
+        | Register::Alarm1Hours
+        | Register::Alarm1Day
+        | Register::Alarm2Minutes
+        | Register::Alarm2Hours
+        | Register::Alarm2Day => alarms[number - 7],
         Register::Control => registers.control | bits_if(converting, CONV),
         Register::Status => registers.status | bits_if(converting, BSY),
         Register::Aging => registers.aging,

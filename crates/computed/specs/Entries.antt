@@ -10,6 +10,6 @@ At [] i x = ⊥
 At (y ∷ l) zero x = y ≡ x
 At (y ∷ l) (suc i) x = At l i x
 
--- entry i of a list of numbers. `entry-at` of proofs/Entries.antt: where i is below the length, it is At i. Past the end it is left free: whoever looks up names the lemma that i is below the length
+-- entry i of a list of numbers, and 0 past its end. `entry-at` of proofs/Entries.antt says `At l i (entry l i)` where i is below the length, and a definition that looks up names the lemma by which it is
 abbrev pub entry : List ℕ → ℕ → ℕ
 entry l i = getD l i 0

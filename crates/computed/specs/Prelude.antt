@@ -1,4 +1,4 @@
--- Need not be believed: nothing is defined here. The logic's own words of numbers, tests and lists, and the choice by a test, under one name.
+-- Need not be believed: nothing is defined here. The logic's own words of numbers, tests and lists, the choice by a test and the entries of a list, under one name.
 pub use Prim.Native.Nat.{ℕ, zero, suc, _+_, _-_, _*_, _/_, _%_, _^_, _≤_, _<_, min}
 pub use mathlib.Core.Bool.{Bool, true, false, not, _&&_, _||_, cond}
 pub use mathlib.Core.List.{List, [], _∷_, _++_}

@@ -45,7 +45,7 @@ sound c = soundTiming (c .timing) && soundRegisters (c .registers) && leb (c .di
 
 -- ---- power-on
 
--- 'Register bytes': power-on has pointer 0 and 24-hour mode; 'Shown time and exact time': the configured seconds at instant 0. What `pending` holds is left free, since no call shows it
+-- 'Register bytes': power-on has pointer 0 and 24-hour mode; 'Shown time and exact time': the configured seconds at instant 0, where the time is latched; the weekday offset is 5 (`power-on-offset` of proofs/ExactTime.antt). Document 01 leaves free what `pending` and `pending_at` hold: no call shows it
 abbrev pub timingOn : Ds3231Config → Timing
 timingOn f =
     latch 0 (record { phase = Released; pointer = Seconds; clock = clockSet (f .start) (weekdayOf (f .start)) 0; «twelve_hour» = false; latched = []; «is_pending» = false; pending = record { time = f .start; weekday = 1 }; «pending_at» = 0 })
@@ -124,7 +124,7 @@ abbrev pub pointerReports : Named → ℕ → ℕ → List I2cDiagnostic
 pointerReports (One r) b t = []
 pointerReports None b t = report t (NoSuchRegister b) ∷ []
 
--- 'Diagnostics': UNDEFINED (register, byte), NOTMODELLED (control byte) once per power-on, READONLY (0x11, 0x12)
+-- 'Diagnostics': UNDEFINED (register, byte), NOTMODELLED (control byte) once per power-on, READONLY (0x11, 0x12); r is a register's number, at most 0x12
 abbrev pub registerReports : ℕ → ℕ → ℕ → Registers → List I2cDiagnostic
 registerReports r b t g =
     if leb r 0x06 then (if isDefined (meaning r b) then [] else report t (Undefined r b) ∷ [])

@@ -1,4 +1,4 @@
--- Need not be believed: the chip's own side of what the model says again. `date-same`, `weekday-same`, `mode-same` and `offset-same` of proofs/Follows.antt and `next-moved` of proofs/Places.antt equate each with the model's. Assumes nothing.
+-- Need not be believed: the chip's own side of what the model says too. `date-same`, `weekday-same`, `mode-same` and, for the weekdays 1 to 7, `offset-same` of proofs/Follows.antt and `next-moved` of proofs/Map.antt equate each with the model's. Assumes nothing.
 use Rattle.computed.specs.Prelude.{ℕ, _+_, _-_, _%_, Bool, leb, eqb, if_then_else_}
 use Rattle.calendar.specs.declared.DateTime.{DateTime}
 use Rattle.fields.specs.Table.{Meaning, undefined, sets}

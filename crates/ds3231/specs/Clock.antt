@@ -14,7 +14,7 @@ elapsed k t = (t - k .«base_at») / nanos
 abbrev pub secondsAt : Clock → ℕ → ℕ
 secondsAt k t = (k .«base_seconds» + elapsed k t) % range
 
--- the time that it shows
+-- the time that it shows: the conversion of its seconds is never refused (`conversion-never-refused` of proofs/NeverRefused.antt)
 abbrev pub timeAt : Clock → ℕ → DateTime
 timeAt k t = timeOf (secondsAt k t)
 

@@ -2,7 +2,7 @@
 use Rattle.computed.specs.Prelude.{ℕ, _<_, List, [], _∷_, _≡_, eqb, if_then_else_}
 use Rattle.ds3231.specs.Types.{Register, Seconds, Minutes, Hours, Weekday, Date, Month, Year, Alarm1Seconds, Alarm1Minutes, Alarm1Hours, Alarm1Day, Alarm2Minutes, Alarm2Hours, Alarm2Day, Control, Status, Aging, TemperatureMsb, TemperatureLsb, Named, One, None}
 
--- 'Register bytes': 0x00 to 0x06 are seconds, minutes, hours, weekday, date, month, year; 0x07 to 0x0D hold alarm bytes; 0x0E control, 0x0F status, 0x10 aging, 0x11 and 0x12 temperature. None is above 0x12 (`number-below` of proofs/Map.antt)
+-- 'Register bytes': 0x00 to 0x06 are seconds, minutes, hours, weekday, date, month, year; 0x07 to 0x0D hold alarm bytes; 0x0E control, 0x0F status, 0x10 aging, 0x11 and 0x12 temperature. No register's number is above 0x12 (`number-below` of proofs/Map.antt)
 abbrev pub numberOf : Register → ℕ
 numberOf Seconds = 0x00
 numberOf Minutes = 0x01
@@ -29,13 +29,14 @@ abbrev pub Names : ℕ → Named → Type 0
 Names n (One r) = numberOf r ≡ n
 Names n None = 0x12 < n
 
--- as it is computed, the first register of the map with the number. `named-names` and `names-one` of proofs/Map.antt: the number names it, and nothing else
+-- the registers in the order of their numbers
 abbrev pub registerMap : List Register
 registerMap =
     Seconds ∷ Minutes ∷ Hours ∷ Weekday ∷ Date ∷ Month ∷ Year
     ∷ Alarm1Seconds ∷ Alarm1Minutes ∷ Alarm1Hours ∷ Alarm1Day ∷ Alarm2Minutes ∷ Alarm2Hours ∷ Alarm2Day
     ∷ Control ∷ Status ∷ Aging ∷ TemperatureMsb ∷ TemperatureLsb ∷ []
 
+-- what a number names, as it is computed: the first register of the map with that number, or none. `named-names` and `names-one` of proofs/Map.antt: the number names it, and nothing else
 abbrev pub namedIn : List Register → ℕ → Named
 namedIn [] n = None
 namedIn (r ∷ rs) n = if eqb n (numberOf r) then One r else namedIn rs n

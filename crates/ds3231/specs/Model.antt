@@ -37,7 +37,7 @@ pub record Model : Type 0 where
 abbrev pub exact : Model → ℕ → ℕ
 exact m t = (m .count + (t - m .since)) % (range * nanos)
 
--- its whole second
+-- its whole second, which is below 6,311,433,600 by that modulus
 abbrev pub wholeSecond : Model → ℕ → ℕ
 wholeSecond m t = exact m t / nanos
 
@@ -89,7 +89,7 @@ pub record IsOffset (days weekday offset : ℕ) : Type 0 where
   pub at-most : offset ≤ 6
   pub gives : weekdayFor days offset ≡ weekday
 
--- the first of 0 to 6 that gives the weekday, and for what is no weekday 7. Theorem `the-offset` of proofs/Follows.antt: of a weekday it is the one offset
+-- the first of 0 to 6 that gives the weekday, and 7 where none does. Theorem `the-offset` of proofs/Follows.antt: of a weekday it is the one offset
 abbrev pub firstOffset : List ℕ → ℕ → ℕ → ℕ
 firstOffset [] days w = 7
 firstOffset (o ∷ os) days w = if eqb (weekdayFor days o) w then o else firstOffset os days w

@@ -18,7 +18,7 @@ temperatureHigh q = lowByte (shrZ q 4)
 abbrev pub temperatureLow : ℤ → ℕ
 temperatureLow q = lowByte q % 4 * 64
 
--- 'Register bytes': the byte of a register at t, from the seven bytes of the time at 0x00 to 0x06; control bit 5 and status bit 2 read set while a conversion runs. Both arrays have seven entries, so that no lookup misses (`time-entry` and `alarm-entry` of proofs/RegisterBytes.antt)
+-- 'Register bytes': the byte of a register at t, from the seven bytes of the time at 0x00 to 0x06; control bit 5 and status bit 2 read set while a conversion runs. Both arrays are [u8; 7] in src/lib.rt, and in lists of seven entries no lookup misses (`time-entry` and `alarm-entry` of proofs/RegisterBytes.antt)
 abbrev pub byteAt : List ℕ → Registers → Register → ℕ → ℕ
 byteAt time g Seconds t = entry time 0
 byteAt time g Minutes t = entry time 1
@@ -48,7 +48,7 @@ enablesOutput b = eqb (bitAnd b 0x04) 0 || not (eqb (bitAnd b 0x03) 0)
 abbrev pub startsConversion : ℕ → ℕ → Registers → Bool
 startsConversion b t g = not (eqb (bitAnd b 0x20) 0) && not (converting g t)
 
--- 'Register bytes': an alarm byte as written
+-- 'Register bytes': an alarm byte as written, at place 0 to 6 of the seven
 abbrev pub alarmWritten : ℕ → ℕ → Registers → Registers
 alarmWritten i b g = record { alarms = set (g .alarms) i b; control = g .control; status = g .status; «conversion_end» = g .«conversion_end»; aging = g .aging; «temperature_quarters» = g .«temperature_quarters»; «int_sqw_reported» = g .«int_sqw_reported» }
 
@@ -72,7 +72,7 @@ statusWritten b g = record { alarms = g .alarms; control = g .control; status = 
 abbrev pub agingWritten : ℕ → Registers → Registers
 agingWritten b g = record { alarms = g .alarms; control = g .control; status = g .status; «conversion_end» = g .«conversion_end»; aging = b; «temperature_quarters» = g .«temperature_quarters»; «int_sqw_reported» = g .«int_sqw_reported» }
 
--- a byte written to register r at t
+-- a byte written at t to the register of number r, which is at most 0x12: 0x00 to 0x06, 0x11 and 0x12 change nothing here
 abbrev pub registersWritten : ℕ → ℕ → ℕ → Registers → Registers
 registersWritten r b t g =
     if leb 0x07 r && leb r 0x0D then alarmWritten (r - 7) b g

@@ -33,7 +33,7 @@ clockFrom p t = clockSet (nearest (p .time)) (p .weekday) t
 
 -- ---- the steps
 
--- the seven time bytes at t, in the hour mode of the last accepted hour byte
+-- the seven time bytes at t, in the hour mode then held
 abbrev pub shownAt : Timing → ℕ → List ℕ
 shownAt c t = timeBytes (timeAt (c .clock) t) (weekdayAt (c .clock) t) (c .«twelve_hour»)
 

@@ -1,7 +1,7 @@
 // The DS3231 real-time clock: its structs, the bus events and their replies. What its calls mean, document 01's model, the
 // exact time and the report total are definitions and theorems. Its one function makes the default configuration.
-// To read it: of specs/ `Clock`, `Timing`, `Registers`, `Calls`, then `Model`, `Exact` and `Total`; `Changed` has the parts that
-// chip and model say each for itself. docs/EXACT-TIME.md says the theorem in plain words; its proof is
+// To read it: of specs/ `Numbers`, `Map`, `Clock`, `Timing`, `Registers`, `Calls`, then `Model`, `Exact` and `Total`; `Changed`
+// has the parts that chip and model say each for itself. docs/EXACT-TIME.md says the theorem in plain words; its proof is
 // `proofs/ExactTime.antt`, and `proofs/Witness.antt` shows that it is not empty.
 ghost use mathlib.Core.Path.{_≡_};
 ghost use Rattle.ds3231.specs.Calls.{defaultConfig};

@@ -1,6 +1,6 @@
 -- Order 11: for a sound chip the conversion of its shown seconds is never refused, and `register` answers a byte at each of 0x00 to 0x12, which is the byte of the definition by numbers.
 -- Assumes nothing.
-use Prim.Native.Nat.{ℕ, _+_, _*_, _-_, _%_, _^_, _≤_, _<_}
+use Prim.Native.Nat.{ℕ, suc, _-_, _^_, _≤_, _<_}
 use mathlib.Core.Bool.{Bool, true}
 use mathlib.Core.List.{List, []}
 use mathlib.Core.Path.{_≡_, refl, sym, ap, ap₂, subst, _∙_}
@@ -9,26 +9,29 @@ use borrow.Author.Tests.{leb-true, leb-false}
 use lib.Bits.{bitOr, or-lt}
 use lib.Dec.{leb, eqb}
 use lib.IntN.{ℤ, pos, negsuc}
-use lib.ListN.{length, getD}
+use lib.ListN.{length, getD, replicate}
 use lib.Signed.{shrZ}
 use Rattle.refusals.specs.Numbered.{Numbered, accepted, refused, andThen}
 use Rattle.computed.specs.Choice.{if_then_else_}
 use Rattle.computed.specs.Entries.{entry}
 use Rattle.computed.proofs.Choice.{chosen}
-use Rattle.calendar.specs.Stated.{checkedSeconds, timeOf}
+use Rattle.computed.proofs.Claim.{le, each}
+use Rattle.calendar.specs.Stated.{InRange, checkedSeconds, timeOf}
 use Rattle.calendar.specs.Answers.{fromSecondsAnswer}
 use Rattle.calendar.specs.declared.FromSecondsResult as FromSecondsResult
 use Rattle.calendar.proofs.Laws.{seconds-accepted, time-in-range}
 use Rattle.calendar.proofs.Lossless.{from-seconds-lossless}
 use Rattle.fields.proofs.Laws.{time-byte-below}
-use Rattle.ds3231.specs.Types.{Registers, Ds3231, Register, Seconds, Minutes, Hours, Weekday, Date, Month, Year, Alarm1Seconds, Alarm1Minutes, Alarm1Hours, Alarm1Day, Alarm2Minutes, Alarm2Hours, Alarm2Day, Control, Status, Aging, TemperatureMsb, TemperatureLsb, Named, One, None}
+use Rattle.ds3231.specs.Types.{Registers, Ds3231, Ds3231Config, Register, Seconds, Minutes, Hours, Weekday, Date, Month, Year, Alarm1Seconds, Alarm1Minutes, Alarm1Hours, Alarm1Day, Alarm2Minutes, Alarm2Hours, Alarm2Day, Control, Status, Aging, TemperatureMsb, TemperatureLsb, Named, One, None}
 use Rattle.ds3231.specs.Map.{numberOf, Names, named}
 use Rattle.ds3231.specs.Clock.{secondsAt}
 use Rattle.ds3231.specs.Timing.{shownAt}
 use Rattle.ds3231.specs.Registers.{converting, lowByte, temperatureHigh, temperatureLow, byteAt}
-use Rattle.ds3231.specs.Calls.{sound, checkedChip, shownTime, nowAnswer, registerByte, registerAnswer}
+use Rattle.ds3231.specs.Calls.{inQuarters, sound, registersOn, chipOn, checkedChip, shownTime, nowAnswer, registerByte, registerAnswer}
 use Rattle.ds3231.proofs.Map.{named-names}
 use Rattle.ds3231.proofs.Bytes.{seconds-in, weekday-shown}
+use Rattle.ds3231.proofs.Facts.{sound-test}
+use Rattle.ds3231.proofs.Sounds.{on-sound}
 
 -- what a call that asks answers on a sound chip
 pub asked : {A : Type 0} (c : Ds3231) (a : Numbered A) → sound c ≡ true → andThen (checkedChip c) a ≡ a
@@ -101,6 +104,13 @@ pub record Fitting (g : Registers) : Type 0 where
   pub status : g .status < 256
   pub aging : g .aging < 256
 
+-- those of every power-on fit
+zeros : (i : ℕ) → i < 7 → entry (replicate 7 0) i < 256
+zeros i h = each (λ k. le (suc (entry (replicate 7 0) k)) 256) 0 7 tt i (omega arith) (omega arith)
+
+pub fitting-on : (f : Ds3231Config) → Fitting (registersOn f)
+fitting-on f = record { alarms = refl; alarm-bytes = zeros; control = omega arith; status = chosen (λ (x : ℕ). x < 256) (f .«oscillator_stopped») (λ e. omega arith) (λ e. omega arith); aging = omega arith }
+
 low-below : (z : ℤ) → lowByte z < 256
 low-below (pos n) = omega arith
 low-below (negsuc n) = omega arith
@@ -143,3 +153,7 @@ register-has-byte c e f t n h = by (named n) (named-names n) refl
           before = b;
         }
     by None p q = absurd (omega arith)
+
+-- the chip of a power-on that is not refused meets both conditions
+pub on-has-byte : (f : Ds3231Config) → InRange (f .start) → inQuarters (f .«temperature_quarters») ≡ true → (t n : ℕ) → n ≤ 0x12 → HasByte (chipOn f) n t
+on-has-byte f v q = register-has-byte (chipOn f) (sound-test (chipOn f) (on-sound f v q)) (fitting-on f)

@@ -2,6 +2,8 @@
 // gives back what the call left in them.
 // To read it: each contract is that of the call in `ds3231_bus`, `diagnostics` or `script`, on the values before and after. The
 // structs hold what is lent and what comes back.
+#![tactic(auto)]
+
 ghost use Rattle.ds3231.specs.declared.Event.TheVariants.{Start, Write, Read, Stop};
 ghost use Rattle.diagnostics.specs.Reports.{report as report_of};
 ghost use Rattle.diagnostics.specs.Lent.{ReportedTo};
@@ -14,7 +16,7 @@ use ds3231_bus::{BusAnswer, TakeAnswer, address, read, stop, take_diagnostics, w
 use script::{RunOutcome, run};
 
 // What a bus call is passed beside chip and store: the address or the byte, the read bit or the acknowledge, the instant.
-#[derive(Drop)]
+#[derive(Clone, Copy)]
 pub struct Values {
     pub value: u8,
     pub bit: bool,
@@ -22,7 +24,7 @@ pub struct Values {
 }
 
 // A chip, a store of 256 records, and the answer of the last bus call.
-#[derive(Drop)]
+#[derive(Clone, Copy)]
 pub struct Session {
     pub chip: Ds3231,
     pub store: [I2cDiagnostic; 256],
@@ -30,7 +32,7 @@ pub struct Session {
 }
 
 // The same with a store of 255 records.
-#[derive(Drop)]
+#[derive(Clone, Copy)]
 pub struct ShortSession {
     pub chip: Ds3231,
     pub store: [I2cDiagnostic; 255],
@@ -38,7 +40,7 @@ pub struct ShortSession {
 }
 
 // The chip after taking, the records that it was lent, and its answer.
-#[derive(Drop)]
+#[derive(Clone, Copy)]
 pub struct Emptied {
     pub chip: Ds3231,
     pub out: [I2cDiagnostic; 256],
@@ -46,7 +48,7 @@ pub struct Emptied {
 }
 
 // The same with two records lent.
-#[derive(Drop)]
+#[derive(Clone, Copy)]
 pub struct ShortEmptied {
     pub chip: Ds3231,
     pub out: [I2cDiagnostic; 2],
@@ -54,14 +56,14 @@ pub struct ShortEmptied {
 }
 
 // What `report` is passed beside counts and store.
-#[derive(Drop)]
+#[derive(Clone, Copy)]
 pub struct ReportValues {
     pub kind: I2cDiagnosticKind,
     pub at: u64,
 }
 
 // The counts, a store of 256 records, and the answer of the last report.
-#[derive(Drop)]
+#[derive(Clone, Copy)]
 pub struct Reporting {
     pub counts: Diagnostics,
     pub store: [I2cDiagnostic; 256],

@@ -2,6 +2,8 @@
 // To read it: the contracts cite `gregorian`'s definitions at a `DateTime` (`specs/Dates.antt`) and number each answer as
 // document 01 does (`specs/Answers.antt`). `specs/Stated.antt` is what the crates above may name, and `proofs/Laws.antt` the
 // laws that they go by.
+#![tactic(auto)]
+
 ghost use Rattle.std.specs.Prelude.{◌≡◌, ◌+◌, ◌-◌, ◌%◌, ◌<◌, ◌≤◌, ◌⊎◌, ltb};
 ghost use Rattle.refusals.specs.Numbered.{accepted, and_then};
 ghost use Rattle.gregorian.specs.Calendar.{leap, month_length, date_of_day};
@@ -38,7 +40,7 @@ const DAYS_PER_400_YEARS: u64 = 146_097;
 pub const WEEKDAY_OF_2000_OFFSET: u64 = 5;
 
 // A date and a time of day. The valid ones are those from 2000-01-01T00:00:00 to 2199-12-31T23:59:59.
-#[derive(Drop)]
+#[derive(Clone, Copy)]
 pub struct DateTime {
     pub year: u16,
     pub month: u8,
@@ -49,7 +51,7 @@ pub struct DateTime {
 }
 
 // The first field of a time that is out of its range.
-#[derive(Drop)]
+#[derive(Clone, Copy)]
 pub enum DateTimeError {
     Year(u16),
     Month(u8),
@@ -60,35 +62,35 @@ pub enum DateTimeError {
 }
 
 // What `validate` answers.
-#[derive(Drop)]
+#[derive(Clone, Copy)]
 pub enum Validity {
     Valid,
     Invalid(DateTimeError),
 }
 
 // What `new` answers.
-#[derive(Drop)]
+#[derive(Clone, Copy)]
 pub enum NewResult {
     Ok(DateTime),
     Err(DateTimeError),
 }
 
 // What `from_seconds_since_2000` answers.
-#[derive(Drop)]
+#[derive(Clone, Copy)]
 pub enum FromSecondsResult {
     Ok(DateTime),
     OutOfRange,
 }
 
 // What `seconds_since_2000` answers.
-#[derive(Drop)]
+#[derive(Clone, Copy)]
 pub enum SecondsResult {
     Ok(u64),
     Err(DateTimeError),
 }
 
 // What `weekday` answers.
-#[derive(Drop)]
+#[derive(Clone, Copy)]
 pub enum WeekdayResult {
     Ok(u8),
     Err(DateTimeError),

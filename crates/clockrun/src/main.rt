@@ -1,5 +1,7 @@
 // Reads a script from standard input, runs it from power-on and prints its listing, or why it is refused.
 // An input that cannot be read, an output that cannot be written and an argument each get a line on standard error.
+#![tactic(auto)]
+
 use libc::STDERR_FILENO;
 use script_listing::{INPUT, LISTING, input_listing, within};
 use streams::{Transfer, read_input, write_output};

@@ -4,6 +4,8 @@
 // To read an answer, divide it by 2^56. Where that gives 0 it is the date or the seconds; else it is the number of the
 // refusal, 1 to 6 or 8. `specs/Packed.antt` has the numbers that the contracts cite. That an accepted answer is below
 // 2^56, and that no two dates are packed alike, is proved in `proofs/Laws.antt`.
+#![tactic(auto)]
+
 ghost use Rattle.std.specs.Prelude.{◌≡◌, ◌*◌, ◌^◌};
 ghost use Rattle.refusals.specs.Numbered.{accepted, and_then};
 ghost use Rattle.calendar.specs.Answers.{refused_by};

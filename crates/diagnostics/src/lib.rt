@@ -1,6 +1,8 @@
 // What a chip on the bus reports: the kinds, the record, the lent store of 256 records and its counts.
 // To read it: `specs/Reports.antt` has what a report does to the store and the counts, and document 01's word, register and
 // byte of each kind; `specs/Lent.antt` has what `report` promises of the counts and the store that it is lent.
+#![tactic(auto)]
+
 ghost use Rattle.std.specs.Prelude.{◌≡◌};
 ghost use Rattle.diagnostics.specs.Reports.{counted, unwritten, report as report_of};
 ghost use Rattle.diagnostics.specs.Lent.{ReportedTo};
@@ -10,12 +12,12 @@ ghost use Rattle.diagnostics.specs.ByValue.{posted, no_posting, ReportedOnStores
 pub const MAX_DIAGNOSTICS: usize = 256;
 
 // The chip that reports.
-#[derive(Drop)]
+#[derive(Clone, Copy)]
 pub enum ChipName {
     Ds3231,
 }
 
-#[derive(Drop)]
+#[derive(Clone, Copy)]
 pub enum I2cDiagnosticKind {
     // Control enabled the INT/SQW output, which is not modelled: the byte as written.
     NotModelled { value: u8 },
@@ -28,7 +30,7 @@ pub enum I2cDiagnosticKind {
 }
 
 // A diagnostic, the chip that reported it and its instant.
-#[derive(Drop)]
+#[derive(Clone, Copy)]
 pub struct I2cDiagnostic {
     pub at: u64,
     pub chip: ChipName,
@@ -49,7 +51,7 @@ impl I2cDiagnostic {
 }
 
 // A record with its place in the store, if there is one to write.
-#[derive(Drop)]
+#[derive(Clone, Copy)]
 pub struct Posting {
     pub write: bool,
     pub slot: usize,
@@ -71,14 +73,14 @@ impl Posting {
 }
 
 // How many records wait in the store, from its start, and how many reports were dropped since power-on.
-#[derive(Drop)]
+#[derive(Clone, Copy)]
 pub struct Diagnostics {
     pub waiting: usize,
     pub dropped: u64,
 }
 
 // What `report` answers.
-#[derive(Drop)]
+#[derive(Clone, Copy)]
 pub enum ReportAnswer {
     Done,
     // More records wait than the store has room for.
@@ -88,7 +90,7 @@ pub enum ReportAnswer {
 }
 
 // What a report leaves of the counts, its answer, and the record to write.
-#[derive(Drop)]
+#[derive(Clone, Copy)]
 struct ReportOutcome {
     counts: Diagnostics,
     answer: ReportAnswer,

@@ -3,6 +3,8 @@
 // To read it: of specs/ `Numbers`, `Map`, `Clock`, `Timing`, `Registers`, `Calls`, then `Model`, `Exact` and `Total`; `Changed`
 // has the parts that chip and model say each for itself. docs/EXACT-TIME.md says the theorem in plain words; its proof is
 // `proofs/ExactTime.antt`, and `proofs/Witness.antt` shows that it is not empty.
+#![tactic(auto)]
+
 ghost use Rattle.std.specs.Prelude.{◌≡◌};
 ghost use Rattle.ds3231.specs.Calls.{default_config};
 
@@ -11,7 +13,7 @@ use diagnostics::Diagnostics;
 
 // The running clock: the seconds since 2000 at an instant at which a second of the clock began, and the offset that gives
 // the weekday from the day number.
-#[derive(Drop)]
+#[derive(Clone, Copy)]
 pub struct Clock {
     pub base_seconds: u64,
     pub base_at: u64,
@@ -19,14 +21,14 @@ pub struct Clock {
 }
 
 // The time registers written in the transaction under way, applied when it ends. Its day may not fit its month until then.
-#[derive(Drop)]
+#[derive(Clone, Copy)]
 pub struct PendingTime {
     pub time: DateTime,
     pub weekday: u8,
 }
 
 // The register map, 0x00 to 0x12. A pointer is one of these, so that a chip has no pointer past the last.
-#[derive(Drop)]
+#[derive(Clone, Copy)]
 pub enum Register {
     Seconds,
     Minutes,
@@ -50,14 +52,14 @@ pub enum Register {
 }
 
 // What a number names: a register, or none where it is above 0x12.
-#[derive(Drop)]
+#[derive(Clone, Copy)]
 pub enum Named {
     One(Register),
     None,
 }
 
 // Where the chip stands in the transaction on the bus.
-#[derive(Drop)]
+#[derive(Clone, Copy)]
 pub enum Phase {
     // Not addressed.
     Released,
@@ -73,7 +75,7 @@ pub enum Phase {
 
 // What keeps the time and follows the bus. `pending` and `pending_at` count only while `is_pending`: a second of the pending
 // time begins at the instant `pending_at`.
-#[derive(Drop)]
+#[derive(Clone, Copy)]
 pub struct Timing {
     pub phase: Phase,
     pub pointer: Register,
@@ -87,7 +89,7 @@ pub struct Timing {
 
 // The registers outside the time: control without bit 5 and status without bit 2, which read set while a conversion runs.
 // `conversion_end` is 0 where there was none: no instant is below it.
-#[derive(Drop)]
+#[derive(Clone, Copy)]
 pub struct Registers {
     pub alarms: [u8; 7],
     pub control: u8,
@@ -99,7 +101,7 @@ pub struct Registers {
 }
 
 // The DS3231 on an I2C bus. Its diagnostics wait in a store that each call is lent.
-#[derive(Drop)]
+#[derive(Clone, Copy)]
 pub struct Ds3231 {
     pub timing: Timing,
     pub registers: Registers,
@@ -107,7 +109,7 @@ pub struct Ds3231 {
 }
 
 // What the clock holds at power-on.
-#[derive(Drop)]
+#[derive(Clone, Copy)]
 pub struct Ds3231Config {
     pub start: DateTime,
     pub oscillator_stopped: bool,
@@ -136,7 +138,7 @@ impl Ds3231Config {
 }
 
 // A bus event, with its instant.
-#[derive(Drop)]
+#[derive(Clone, Copy)]
 pub enum Event {
     Start { address: u8, read: bool, at: u64 },
     Write { byte: u8, at: u64 },
@@ -145,7 +147,7 @@ pub enum Event {
 }
 
 // What a bus event answers: START and WRITE an acknowledge, READ a byte.
-#[derive(Drop)]
+#[derive(Clone, Copy)]
 pub enum Reply {
     Acknowledge(bool),
     Byte(u8),

@@ -1,6 +1,8 @@
 // The DS3231 as a target on the bus: the public calls take the chip by mutable reference and a lent store of 256 records.
 // Each is thin: it copies the chip out, asks a function by value what the call leaves (`outcomes`, `takings`), and stores
 // that; a report goes to the store by `diagnostics::post`. `I2cTarget` is a trait in the Rust; here its four calls are free functions.
+#![tactic(auto)]
+
 ghost use Rattle.ds3231.specs.declared.Event.TheVariants.{Start, Write, Read, Stop};
 ghost use Rattle.ds3231_bus.specs.Answers.{Called, Took};
 
@@ -11,7 +13,7 @@ mod outcomes;
 mod takings;
 
 // What a bus call answers: the event's reply, or a refusal.
-#[derive(Drop)]
+#[derive(Clone, Copy)]
 pub enum BusAnswer {
     Replied(Reply),
     NotSound,
@@ -20,7 +22,7 @@ pub enum BusAnswer {
 }
 
 // What taking answers: how many records it copied.
-#[derive(Drop)]
+#[derive(Clone, Copy)]
 pub enum TakeAnswer {
     Taken(usize),
     NotSound,

@@ -12,14 +12,14 @@ use ds3231::{Ds3231, Event};
 use ds3231_chip::is_sound;
 use ds3231_step::{Report, step};
 
-#[derive(Drop)]
+#[derive(Clone, Copy)]
 pub(crate) struct Outcome {
     pub(crate) chip: Ds3231,
     pub(crate) answer: BusAnswer,
     pub(crate) posting: Posting,
 }
 
-#[derive(Drop)]
+#[derive(Clone, Copy)]
 pub(crate) struct ReadOutcome {
     pub(crate) chip: Ds3231,
     pub(crate) answer: BusAnswer,

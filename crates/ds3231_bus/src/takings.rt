@@ -7,7 +7,7 @@ use diagnostics::{Diagnostics, MAX_DIAGNOSTICS};
 use ds3231::Ds3231;
 use ds3231_chip::is_sound;
 
-#[derive(Drop)]
+#[derive(Clone, Copy)]
 pub(crate) struct Taking {
     pub(crate) chip: Ds3231,
     pub(crate) answer: TakeAnswer,

@@ -1,6 +1,8 @@
 // The DS3231 by value: power-on, soundness, and the calls that ask, each of which tests the chip for itself: `now`,
 // `register` and the dropped count.
 // Modules: `power`, `sound` and `ask`. `specs/Answers.antt` has what the calls answer in document 01's numbers.
+#![tactic(auto)]
+
 use calendar::{DateTime, DateTimeError};
 use ds3231::Ds3231;
 
@@ -13,7 +15,7 @@ pub use power::power_on;
 pub use sound::is_sound;
 
 // What power-on answers: on, or why not.
-#[derive(Drop)]
+#[derive(Clone, Copy)]
 pub enum PowerOnAnswer {
     On,
     Start(DateTimeError),
@@ -21,21 +23,21 @@ pub enum PowerOnAnswer {
 }
 
 // Power-on's answer, with the chip. Where power-on is refused the chip is not sound.
-#[derive(Drop)]
+#[derive(Clone, Copy)]
 pub struct PowerOn {
     pub answer: PowerOnAnswer,
     pub chip: Ds3231,
 }
 
 // What `now` answers.
-#[derive(Drop)]
+#[derive(Clone, Copy)]
 pub enum NowResult {
     Ok(DateTime),
     NotSound,
 }
 
 // What `register` answers.
-#[derive(Drop)]
+#[derive(Clone, Copy)]
 pub enum RegisterResult {
     Ok(u8),
     NoSuchRegister,
@@ -43,7 +45,7 @@ pub enum RegisterResult {
 }
 
 // What `dropped_diagnostics` answers.
-#[derive(Drop)]
+#[derive(Clone, Copy)]
 pub enum DroppedResult {
     Ok(u64),
     NotSound,

@@ -1,4 +1,6 @@
 // The register map: the number of a register, what a number names, and the register after another.
+#![tactic(auto)]
+
 ghost use Rattle.std.specs.Prelude.{◌≡◌};
 ghost use Rattle.ds3231.specs.Map.{number_of, named as named_by};
 ghost use Rattle.ds3231.specs.Changed.{next_pointer};

@@ -2,6 +2,8 @@
 // not clockrun's, and taking. It reads the script, of five records, from standard input.
 // The file `stdin` is examples/status.script, and `stdout` has the answers of the Rust to the calls of
 // tools/oracle/expected/example_panel.calls.
+#![tactic(auto)]
+
 mod text;
 
 use bus_by_value::{Session, Values, address_on, run_on, stop_on, take_on, write_on};

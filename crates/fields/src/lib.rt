@@ -1,6 +1,8 @@
 // The bytes of the time registers 0x00 to 0x06 and the fields that they stand for.
 // To read it: `specs/Table.antt` says which byte is defined, which field it sets, and the seven bytes of a time;
 // `specs/Bytes.antt` has the byte of a field, and `proofs/Laws.antt` that a byte and its field go both ways.
+#![tactic(auto)]
+
 ghost use Rattle.std.specs.Prelude.{◌≡◌, ◌%◌, leb, eqb};
 ghost use Rattle.computed.specs.Choice.{if◌then◌else◌};
 ghost use Rattle.fields.specs.Bytes.{to_digits, hour_byte};
@@ -39,7 +41,7 @@ const MONTH_FIELD: u8 = 0x1F;
 pub const YEARS_PER_CENTURY: u16 = 100;
 
 // A field of the time, decoded from a byte written to a time register.
-#[derive(Drop)]
+#[derive(Clone, Copy)]
 pub enum Field {
     Second(u8),
     Minute(u8),
@@ -51,14 +53,14 @@ pub enum Field {
 }
 
 // What `decode` answers.
-#[derive(Drop)]
+#[derive(Clone, Copy)]
 pub enum Decoded {
     Defined(Field),
     Undefined,
 }
 
 // What `from_bcd` and `from_bcd_within` answer.
-#[derive(Drop)]
+#[derive(Clone, Copy)]
 enum FromBcd {
     Some(u8),
     None,

@@ -2,7 +2,9 @@
 // To read it: `specs/Calendar.antt` has the leap rule, the lengths of months, the days one by one and weekdays;
 // `specs/DayNumbers.antt` the number of a date's day; `specs/Times.antt` times of day, seconds and the first fault of a time;
 // `specs/Ranges.antt` the valid times, by the ranges of their fields; `specs/Nearest.antt` the nearest of them.
-#[derive(Drop)]
+#![tactic(auto)]
+
+#[derive(Clone, Copy)]
 pub struct Date {
     pub year: u16,
     pub month: u8,

@@ -1,6 +1,8 @@
 // The text that `clockrun` prints, line by line, appended to a lent slice of bytes.
 // To read it: `specs/Text.antt` has each line, byte by byte, and `specs/Appended.antt` what appending leaves in the slice. The
 // module `blocks` has the parts of a line: words, digits and commas.
+#![tactic(auto)]
+
 mod blocks;
 
 ghost use Rattle.std.specs.Prelude.{◌+◌, ◌*◌, ◌≤◌, min, ◌≡◌, leb, length, take};

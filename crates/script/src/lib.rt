@@ -3,6 +3,8 @@
 // leaves, and the host's number; `proofs/Laws.antt` and `proofs/RunLaws.antt` have the laws of both.
 // Modules: `records` has what stands in a record, `checks` the check, `runs` the run, `numbers` the refusals of both by
 // number, and `host` the host's calls.
+#![tactic(auto)]
+
 mod checks;
 mod host;
 mod numbers;
@@ -21,7 +23,7 @@ pub const RECORD: usize = 16;
 pub const MAX_RECORDS: usize = 2_048;
 
 // What is wrong with a script. Of a record, with its number.
-#[derive(Drop)]
+#[derive(Clone, Copy)]
 pub enum ScriptFault {
     // Over 32,768 bytes.
     TooLong,
@@ -38,7 +40,7 @@ pub enum ScriptFault {
 }
 
 // What the check of a script answers.
-#[derive(Drop)]
+#[derive(Clone, Copy)]
 pub enum CheckAnswer {
     Legal,
     Refused(ScriptFault),

@@ -8,7 +8,7 @@ use crate::ScriptFault;
 use crate::runs::RunAnswer;
 
 // A refusal's number, 0 where nothing is refused, and the record that it is about: 0 where there is none.
-#[derive(Drop)]
+#[derive(Clone, Copy)]
 pub struct Refusal {
     pub number: u8,
     pub has_record: bool,

@@ -13,7 +13,7 @@ use ds3231_chip::{is_sound, power_on};
 use ds3231_step::{Report, step};
 
 // What a run answers.
-#[derive(Drop)]
+#[derive(Clone, Copy)]
 pub enum RunAnswer {
     Done,
     NotSound,
@@ -25,7 +25,7 @@ pub enum RunAnswer {
 }
 
 // The chip and the records after a run, and its answer.
-#[derive(Drop)]
+#[derive(Clone, Copy)]
 pub struct RunOutcome {
     pub chip: Ds3231,
     pub answer: RunAnswer,

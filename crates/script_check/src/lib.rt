@@ -2,6 +2,8 @@
 // To read it: `specs/Records.antt` has what a record is, which scripts are legal and what the check answers;
 // `specs/Judging.antt` has the judge and the check as a fold of it, and `proofs/Folds.antt` that both checks are one.
 // Modules: `records` reads the sixteen bytes of a record, `judging` judges them, and `checks` goes through a script.
+#![tactic(auto)]
+
 mod checks;
 mod judging;
 mod records;
@@ -17,7 +19,7 @@ pub const RECORD: usize = 16;
 pub const MAX_RECORDS: usize = 2_048;
 
 // What is wrong with a record.
-#[derive(Drop)]
+#[derive(Clone, Copy)]
 pub enum RecordFault {
     // A kind above 3.
     Kind,
@@ -30,14 +32,14 @@ pub enum RecordFault {
 }
 
 // What the judge answers of a record: its instant, or what is wrong with it.
-#[derive(Drop)]
+#[derive(Clone, Copy)]
 pub enum Judgement {
     Instant(u64),
     Fault(RecordFault),
 }
 
 // What is wrong with a script.
-#[derive(Drop)]
+#[derive(Clone, Copy)]
 pub enum ScriptFault {
     // Over 32,768 bytes.
     TooLong,
@@ -48,7 +50,7 @@ pub enum ScriptFault {
 }
 
 // What the check of a script answers.
-#[derive(Drop)]
+#[derive(Clone, Copy)]
 pub enum CheckAnswer {
     Legal,
     Refused(ScriptFault),

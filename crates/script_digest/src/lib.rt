@@ -1,5 +1,7 @@
 // A run of a script whose chip and store are both read afterwards, into one number: tools/bench measures it, and no host
 // needs it.
+#![tactic(auto)]
+
 ghost use Rattle.std.specs.Prelude.{◌≡◌, length};
 ghost use Rattle.refusals.specs.Numbered.{unless};
 ghost use Rattle.script.specs.Records.{records_in};

@@ -1,5 +1,7 @@
 // What `clockrun` prints for a script, whole, made in a lent slice of bytes.
 // To read it: `specs/Listing.antt` has the listing of a script, or the line of its refusal; the lines are `listing`'s.
+#![tactic(auto)]
+
 ghost use Rattle.std.specs.Prelude.{◌≡◌, ◌+◌, ◌*◌, ◌/◌, ◌≤◌, min, length};
 ghost use Rattle.io.specs.Counts.{IsPrefixLen};
 ghost use Rattle.listing.specs.Appended.{Appended};

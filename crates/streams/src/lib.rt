@@ -1,5 +1,7 @@
 // Standard input and output, whole: calls of `read` and `write` until nothing is left to move, or until one moves nothing.
 // To read it: `specs/Transfers.antt` has where a transfer may stop. No contract can say which bytes the system moves.
+#![tactic(auto)]
+
 ghost use Rattle.std.specs.Prelude.{◌≡◌, ◌≤◌, ◌-◌, length, take};
 ghost use Rattle.libc.specs.Io.{Moved};
 ghost use Rattle.streams.specs.Transfers.{bytes_moved, Transferred};
@@ -7,7 +9,7 @@ ghost use Rattle.streams.specs.Transfers.{bytes_moved, Transferred};
 use libc::{STDIN_FILENO, STDOUT_FILENO};
 
 // What became of a slice that was to be read or written.
-#[derive(Drop)]
+#[derive(Clone, Copy)]
 pub enum Transfer {
     // All of it was.
     Whole,

@@ -5,6 +5,8 @@
 // t = datetime(2000, 1, 1, 12, 34, 56) + timedelta(n), its fields, t.isoweekday() and
 // (t - datetime(2000, 1, 1)).total_seconds(), and for a month calendar.monthrange(year, month)[1], each folded into the
 // checksum by (sum * 31 + value) % 4294967291, from 0 at each century's start.
+#![tactic(auto)]
+
 use calendar::{
     DateTime, FromSecondsResult, SECONDS_PER_DAY, SecondsResult, WeekdayResult, days_in_month,
 };

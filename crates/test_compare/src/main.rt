@@ -1,6 +1,8 @@
 // This library's side of tools/compare: answers the lists of calls and the scripts that it sends, block by block. A block's
 // first byte is its kind: 0 lists of calls, 1 scripts.
 // The file `stdin` is two blocks of each kind, and `stdout` has the answers of the Rust.
+#![tactic(auto)]
+
 mod blocks;
 
 const SCRIPTS: u8 = 1;

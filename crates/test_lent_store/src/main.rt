@@ -1,5 +1,7 @@
 // The lent store of diagnostics: it fills, overflows, is taken from and fills again; takings and calls that are refused.
 // Report k is made at instant k, so that a record tells which report it is.
+#![tactic(auto)]
+
 use bus_by_value::{
     Emptied, ReportValues, Reporting, Session, ShortEmptied, ShortSession, Values, address_on,
     read_on, report_on, take_on, take_short, write_on, write_short,

@@ -1,6 +1,8 @@
 // Checks and runs the scripts of a reference and prints the listing of each: scripts with every fault of a record, on both
 // sides of each bound, and legal ones that never address the clock.
 // The files `stdin` and `stdout` are those of tools/reference/checks, which is written from documents 01 and 02.
+#![tactic(auto)]
+
 fn main() {
     let mut input = [0u8; 335_872];
     let n = io::read_full(0, &mut input);

@@ -1,5 +1,7 @@
 // Re-runs the recorded scripts that read status after an alarm byte was written and prints the listing of each.
 // The file `stdin` is vectors/scripts_alarm.in, and `stdout` has the answers of the Rust, vectors/scripts_alarm.out.
+#![tactic(auto)]
+
 fn main() {
     let mut input = [0u8; 147_456];
     let n = io::read_full(0, &mut input);

@@ -1,6 +1,8 @@
 // Re-runs recorded lists of calls (vectors/README.md has their form) and prints the answers, a line each.
 // Modules: `record` has the numbers of a record, `chip` the calls of the chip, `taking` the taking of diagnostics, `dates`
 // the calls of `DateTime`, and `text` the text of answers.
+#![tactic(auto)]
+
 ghost use Rattle.std.specs.Prelude.{◌≡◌, ◌+◌, ◌<◌, ◌≤◌, length};
 
 use bus_by_value::Session;
@@ -17,7 +19,7 @@ const RECORD: usize = 16;
 
 // A place in the input, how many records of the list under way are left, how many lists were begun, and the chip with
 // its store.
-#[derive(Drop)]
+#[derive(Clone, Copy)]
 struct Run {
     at: usize,
     left: u64,

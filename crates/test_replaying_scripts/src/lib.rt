@@ -1,5 +1,7 @@
 // Re-runs recorded scripts (vectors/README.md has their form) and prints the listing of each.
 // To read it: `replay` is the loop, `turn` one script.
+#![tactic(auto)]
+
 ghost use Rattle.std.specs.Prelude.{◌≡◌, ◌<◌, ◌≤◌, length};
 
 use libc::STDOUT_FILENO;

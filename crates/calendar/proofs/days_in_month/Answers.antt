@@ -1,7 +1,7 @@
 -- `calendar::days_in_month` meets its contract. What the last arm says of every other month is computed at each `u8`.
--- Assumes nothing.
 use mathlib.Core.Bool.{Bool, true, false, ◌||◌}
 use mathlib.Core.Logic.{⊎_elim, inl, inr}
+use Rattle.std.proofs.Common.{◌≢◌}
 use mathlib.Core.Path.{◌≡◌, refl, sym, ap, ◌∙◌}
 use Prim.Native.Nat.{ℕ, ◌-◌, ◌<◌}
 use native.Mathlib.Omega.{arith}
@@ -12,8 +12,7 @@ use borrow.Author.Tests.{ne_eqb}
 use Rattle.gregorian.specs.Calendar.{leap, months, month_length}
 use Rattle.computed.specs.Choice.{if◌then◌else◌}
 use Rattle.computed.proofs.Claim.{Claim, eq, each}
-use Rattle.calendar.proofs.days_in_month.Statement.{statement}
-use Rattle.calendar.proofs.days_in_month.Tie as tie
+use Rattle.calendar.proofs.days_in_month.Goals as goal
 
 february : (y m : ℕ) (b : Bool) → m ≡ 2 → leap y ≡ b → month_length y m ≡ (if b then 29 else 28)
 unfolding month_length months
@@ -39,26 +38,26 @@ long : (y m : ℕ) → m < 256 → key m ≡ false → month_length y m ≡ 31
 unfolding month_length months
 long y m h e = sym (ap (λ (b : Bool). if b then 31 else get_or (months (leap y)) (m - 1) 31) e) ∙ usual-is (leap y) m h
 
-returns : tie.Need-returns
-returns c = sym (february _ _ true c.before.before.match.keys1 (sym c.before.is-leap.ensures ∙ c.if1.true))
+pub returns-then-is_leap : goal.returns-then-is_leap
+returns-then-is_leap c = sym (february _ _ true c.in-2.is (sym c.is_leap.ensures ∙ c.if-is_leap.true))
 
-returns-2 : tie.Need-returns-2
-returns-2 c = sym (february _ _ false c.before.before.match.keys1 (sym c.before.is-leap.ensures ∙ c.if1.false))
+pub returns-else-is_leap : goal.returns-else-is_leap
+returns-else-is_leap c = sym (february _ _ false c.in-2.is (sym c.is_leap.ensures ∙ c.if-is_leap.false))
 
-returns-3 : tie.Need-returns-3
+pub returns-in-4 : goal.returns-in-4
 unfolding months
-returns-3 c =
-    let f = short c.before.args.year c.before.args.month in
+returns-in-4 c =
+    let f = short c.args.year c.args.month in
     sym
     (⊎_elim (λ e. f 4 e (λ l. refl))
-    (⊎_elim (λ e. f 6 e (λ l. refl)) (⊎_elim (λ e. f 9 e (λ l. refl)) (λ e. f 11 e (λ l. refl)))) c.match.keys2)
+    (⊎_elim (λ e. f 6 e (λ l. refl)) (⊎_elim (λ e. f 9 e (λ l. refl)) (λ e. f 11 e (λ l. refl)))) c.in-4.is)
 
-returns-4 : tie.Need-returns-4
-returns-4 c =
-    let r = c.match.rest in
+none_named : (m : ℕ) → (m ≢ 2) → (m ≢ 4) → (m ≢ 6) → (m ≢ 9) → (m ≢ 11) → key m ≡ false
+none_named m a b d e f = simp (ne_eqb _ _ a, ne_eqb _ _ b, ne_eqb _ _ d, ne_eqb _ _ e, ne_eqb _ _ f)
+
+pub returns-in_default : goal.returns-in_default
+returns-in_default c =
+    let r = c.in_default.in_default-own.rest in
     sym
-    (long c.before.args.year c.before.args.month (search rules)
-    (simp (ne_eqb _ _ r.0.1, ne_eqb _ _ (λ e. r.1 (inl e)), ne_eqb _ _ (λ e. r.1 (inr (inl e))), ne_eqb _ _ (λ e. r.1 (inr (inr (inl e)))), ne_eqb _ _ (λ e. r.1 (inr (inr (inr e)))))))
-
-pub days-in-month-spec : {M : Type 1} → statement M
-days-in-month-spec = tie.close (tie.spec (λ c κs. search rules) returns returns-2 returns-3 returns-4)
+    (long c.args.year c.args.month (search rules)
+    (none_named c.args.month r.0.1 (λ e. r.1 (inl e)) (λ e. r.1 (inr (inl e))) (λ e. r.1 (inr (inr (inl e)))) (λ e. r.1 (inr (inr (inr e))))))

@@ -1,5 +1,4 @@
 -- `fields::decode_hour` meets its contract, in each hour mode.
--- Assumes nothing.
 use mathlib.Core.Bool.{Bool, true, false, not, ◌&&◌}
 use mathlib.Core.Path.{◌≡◌, sym, ap, ◌∙◌}
 use Prim.Native.Nat.{ℕ, ◌+◌, ◌/◌, ◌%◌, ◌≤◌, ◌<◌}
@@ -14,8 +13,7 @@ use Rattle.fields.specs.declared.FromBcd.{FromBcd}
 use Rattle.fields.specs.declared.FromBcd.TheVariants.{Some, None}
 use Rattle.fields.proofs.Digits.{each_answer, plain_some, plain_none, by_some, by_none}
 use borrow.Author.Rules.{rules}
-use Rattle.fields.proofs.decode_hour.Statement.{statement}
-use Rattle.fields.proofs.decode_hour.Tie as tie
+use Rattle.fields.proofs.decode_hour.Goals as goal
 
 -- bit 6 chooses the mode
 module _ (b : ℕ) where
@@ -56,30 +54,14 @@ half-day : (pm : Bool) → (if pm then 12 else 0) ≤ 12
 half-day true = omega arith
 half-day false = omega arith
 
-returns : tie.Need-returns
-returns c = plain_some 2 0 23 hours _ _ (sym c.before.hour.given.1 ∙ c.before.before.before.from-bcd-within.ensures) ∙ plain-hour _ c.before.before.before.before.if1.true
+pub returns-in-Some : goal.returns-in-Some
+returns-in-Some c = plain_some 2 0 23 hours _ _ (sym c.in-Some.is ∙ c.from_bcd_within.ensures) ∙ plain-hour _ c.if-byte-eq0.true
 
-returns-2 : tie.Need-returns-2
-returns-2 c = plain_none 2 0 23 hours _ (sym c.enum_told.given.1 ∙ c.before.before.from-bcd-within.ensures) ∙ plain-hour _ c.before.before.before.if1.true
+pub returns-in-None : goal.returns-in-None
+returns-in-None c = plain_none 2 0 23 hours _ (sym c.in-None.is ∙ c.from_bcd_within.ensures) ∙ plain-hour _ c.if-byte-eq0.true
 
-add-t15 : tie.Need-overflow-add-t15
-add-t15 c = omega (arith, c.afternoon.ensures, half-day (bit 5 c.before.before.before.before.before.before.args.byte))
+pub returns-in-Some-from_bcd_within : goal.returns-in-Some-from_bcd_within
+returns-in-Some-from_bcd_within c = dial-some _ _ _ (sym c.in-Some-from_bcd_within.is ∙ c.from_bcd_within-2.ensures ∙ dial-is _ (search rules)) c.afternoon.ensures ∙ dial-hour _ c.if-byte-eq0.false
 
-returns-3 : tie.Need-returns-3
-returns-3 c = dial-some _ _ _ (sym c.before.before.on-dial.given.1 ∙ c.before.before.before.before.from-bcd-within2.ensures ∙ dial-is _ (search rules)) c.afternoon.ensures ∙ dial-hour _ c.before.before.before.before.before.if1.false
-
-returns-4 : tie.Need-returns-4
-returns-4 c = dial-none _ (sym c.enum-told2.given.1 ∙ c.before.before.from-bcd-within2.ensures ∙ dial-is _ (search rules)) ∙ dial-hour _ c.before.before.before.if1.false
-
-pub decode-hour-spec : {M : Type 1} → statement M
-decode-hour-spec =
-    tie.close
-    (tie.spec
-    (λ c κs. search rules) (λ c. search rules) (λ c. search rules)
-    returns
-    returns-2
-    (λ c κs. search rules) (λ c. search rules) (λ c κs. search rules)
-    add-t15
-    (λ c. search rules)
-    returns-3
-    returns-4)
+pub returns-in-None-from_bcd_within : goal.returns-in-None-from_bcd_within
+returns-in-None-from_bcd_within c = dial-none _ (sym c.in-None-from_bcd_within.is ∙ c.from_bcd_within-2.ensures ∙ dial-is _ (search rules)) ∙ dial-hour _ c.if-byte-eq0.false

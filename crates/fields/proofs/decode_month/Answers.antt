@@ -1,5 +1,4 @@
 -- `fields::decode_month` meets its contract.
--- Assumes nothing.
 use mathlib.Core.Bool.{Bool, not, ◌&&◌}
 use mathlib.Core.Path.{◌≡◌, refl, sym, ap, ◌∙◌}
 use Prim.Native.Nat.{ℕ, zero, suc, ◌*◌, ◌/◌, ◌%◌, ◌<◌}
@@ -14,8 +13,7 @@ use Rattle.fields.specs.declared.FromBcd.{FromBcd}
 use Rattle.fields.specs.declared.FromBcd.TheVariants.{Some, None}
 use Rattle.fields.proofs.Digits.{each_answer, by_some, by_none}
 use borrow.Author.Rules.{rules}
-use Rattle.fields.proofs.decode_month.Statement.{statement}
-use Rattle.fields.proofs.decode_month.Tie as tie
+use Rattle.fields.proofs.decode_month.Goals as goal
 
 -- the month in bits 4 to 0 where bits 6 and 5 are 0: computed at each byte
 abbrev isMonth : ℕ → Bool
@@ -55,16 +53,11 @@ month-none : (b : ℕ) → None ≡ month_of b → undefined ≡ meaning 5 b
 unfolding month_meaning meaning
 month-none b e = by_none (isMonth b) (from_digits (b % 32)) _ e
 
-returns : tie.Need-returns
-returns c = month-none _ (set-bits _ (search rules) c.if1.true)
+pub returns-then-byte-ne0 : goal.returns-then-byte-ne0
+returns-then-byte-ne0 c = month-none _ (set-bits _ (search rules) c.if-byte-ne0.true)
 
-returns-2 : tie.Need-returns-2
-returns-2 c = month-some _ _ (sym c.before.month.given.1 ∙ c.before.before.before.from-bcd-within.ensures ∙ no_bits _ (search rules) c.before.before.before.before.if1.false)
+pub returns-in-Some : goal.returns-in-Some
+returns-in-Some c = month-some _ _ (sym c.in-Some.is ∙ c.from_bcd_within.ensures ∙ no_bits _ (search rules) c.if-byte-ne0.false)
 
-returns-3 : tie.Need-returns-3
-returns-3 c = month-none _ (sym c.enum_told.given.1 ∙ c.before.before.from-bcd-within.ensures ∙ no_bits _ (search rules) c.before.before.before.if1.false)
-
-pub decode-month-spec : {M : Type 1} → statement M
-decode-month-spec =
-    tie.close
-    (tie.spec returns (λ c κs. search rules) (λ c. search rules) (λ c. search rules) returns-2 returns-3)
+pub returns-in-None : goal.returns-in-None
+returns-in-None c = month-none _ (sym c.in-None.is ∙ c.from_bcd_within.ensures ∙ no_bits _ (search rules) c.if-byte-ne0.false)

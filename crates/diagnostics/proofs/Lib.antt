@@ -3,5 +3,3 @@ pub mod Counts
 pub mod OneMore
 pub mod Lent
 pub mod Stores
-pub mod Rows
-pub mod ReportRows

@@ -7,6 +7,7 @@ use crate::{Judgement, RECORD, RecordFault, records};
 
 // Judges a record by its own bytes and the instant before it alone. Both halves are made before the first test, so that the
 // compiler makes one load of each.
+#[tactic(auto, unfolding(crate::specs::Records::judged_after))]
 pub fn judge(bytes: [u8; RECORD], last: u64) -> Judgement
     ensures { result ≡ judged bytes last }
 {

@@ -1,6 +1,6 @@
 -- A defined byte changes a time and a weekday within their ranges, and what a clock shows is in range.
 -- Assumes nothing.
-use Prim.Native.Nat.{ℕ, ◌+◌, ◌-◌, ◌%◌, ◌≤◌, ◌<◌}
+use Prim.Native.Nat.{ℕ, ◌+◌, ◌%◌, ◌≤◌, ◌<◌}
 use mathlib.Core.Bool.{Bool, true, false}
 use mathlib.Core.Path.{◌≡◌, refl, sym, subst}
 use native.Mathlib.Omega.{arith}
@@ -13,7 +13,7 @@ use Rattle.calendar.proofs.Laws.{month_bounds}
 use Rattle.calendar.specs.declared.DateTime.{DateTime}
 use Rattle.fields.specs.Table.{Meaning, undefined, sets, meaning}
 use Rattle.fields.proofs.Laws.{Bounds, in_field_lem, field_bounds}
-use Rattle.ds3231.specs.Numbers.{range, day}
+use Rattle.ds3231.specs.Numbers.{range}
 use Rattle.ds3231.specs.Clock.{seconds_at, weekday_at}
 use Rattle.ds3231.specs.Changed.{offset_for, changed_time, changed_weekday}
 use Rattle.ds3231.specs.Timing.{noted}

@@ -1,6 +1,6 @@
 -- What `sound` tests, as facts about numbers, and back.
 -- Assumes nothing.
-use Prim.Native.Nat.{ℕ, ◌-◌, ◌≤◌, ◌<◌}
+use Prim.Native.Nat.{ℕ, ◌≤◌, ◌<◌}
 use mathlib.Core.Bool.{Bool, true, false, not, ◌&&◌, ◌||◌, false≢true}
 use mathlib.Core.Path.{◌≡◌, refl, sym, ap}
 use native.Mathlib.Omega.{arith}
@@ -12,7 +12,7 @@ use Rattle.computed.proofs.Choice.{both, both_true}
 use Rattle.calendar.specs.Stated.{InRange, with_day, checked}
 use Rattle.calendar.proofs.Laws.{in_range_accepted, accepted_in_range, month_bounds}
 use Rattle.calendar.specs.declared.DateTime.{DateTime}
-use Rattle.ds3231.specs.Numbers.{range, day}
+use Rattle.ds3231.specs.Numbers.{range}
 use Rattle.ds3231.specs.Calls.{sound_time, sound_pending, sound_timing, in_quarters, sound_registers, sound}
 use Rattle.ds3231.specs.declared.PendingTime.{PendingTime}
 use Rattle.ds3231.specs.declared.Timing.{Timing}

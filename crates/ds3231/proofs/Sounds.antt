@@ -1,13 +1,13 @@
 -- Power-on gives a sound chip, and every call keeps a sound chip sound.
 -- Assumes nothing.
-use Prim.Native.Nat.{ℕ, ◌-◌, ◌≤◌, ◌<◌}
+use Prim.Native.Nat.{ℕ, ◌≤◌, ◌<◌}
 use mathlib.Core.Bool.{Bool, true, false, ◌&&◌, ◌||◌, false≢true}
 use mathlib.Core.List.{List, [], ◌∷◌}
 use mathlib.Core.Path.{◌≡◌, refl}
 use native.Mathlib.Omega.{arith}
 use lib.Dec.{leb, eqb}
 use lib.Bits.{bit_and}
-use Rattle.refusals.specs.Numbered.{Numbered, accepted, refused, and_then, unless}
+use Rattle.refusals.specs.Numbered.{Numbered, accepted, refused, unless}
 use Rattle.computed.specs.Choice.{if◌then◌else◌}
 use Rattle.computed.proofs.Choice.{chosen}
 use Rattle.calendar.specs.Stated.{InRange}

@@ -1,6 +1,6 @@
 -- The claim of the exact time is not empty: the case *hour and bad weekday* of document 01, then a burst that sets the time, one that reads 0x00 to 0x06, a taking, a refused call, and a READ that wraps the pointer. Each READ of the time meets the claim's condition, and its byte is given.
 -- Assumes nothing.
-use Prim.Native.Nat.{ℕ, zero, suc, ◌+◌, ◌*◌, ◌-◌, ◌/◌, ◌%◌, ◌≤◌, ◌<◌}
+use Prim.Native.Nat.{ℕ, zero, suc, ◌+◌, ◌*◌, ◌/◌, ◌%◌, ◌≤◌, ◌<◌}
 use mathlib.Core.Bool.{Bool, true, false}
 use mathlib.Core.List.{List, [], ◌∷◌, ◌++◌}
 use mathlib.Core.Path.{◌≡◌, refl, sym, ap, ap₂, ◌∙◌, subst}

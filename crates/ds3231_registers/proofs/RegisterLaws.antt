@@ -32,7 +32,7 @@ abbrev back : ℤ → ℤ
 back z = to_z w16 (of_z w16 z)
 
 pub shifted : (z : ℤ) → SFits w16 z → back (shr_z (back z) 4) ≡ shr_z z 4
-shifted z f = ap (λ (k : ℤ). back (shr_z k 4)) (to_z-of_z f) ∙ to_z-of_z (record { sfits = lt_of_le_of_lt (mag_shr z 4) f.sfits })
+shifted z f = ap (λ (k : ℤ). back (shr_z k 4)) (to_z-of_z {w = w16} f) ∙ to_z-of_z {w = w16} (record { sfits = lt_of_le_of_lt (mag_shr z 4) f.sfits })
 
 below_zero : (z : ℤ) → lt_z z (pos 0) ≡ true → z ≡ negsuc (mag z)
 below_zero (pos n) e = let h = ltb-true n 0 e in absurd (omega arith)

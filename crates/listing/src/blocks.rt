@@ -48,6 +48,7 @@ pub(crate) fn decimal(out: &mut [u8], at: usize, n: u64) -> usize
 }
 
 // A hexadecimal digit, upper case.
+#[tactic(auto, unfolding(crate::specs::Text::hex_digit))]
 fn hex_digit(d: u8) -> u8
     requires { d < 16 }
     ensures { result ≡ hex_digit d }
@@ -65,6 +66,7 @@ pub(crate) fn hex(out: &mut [u8], at: usize, b: u8) -> usize
 }
 
 // The word for an event's kind.
+#[tactic(auto, unfolding(crate::specs::Text::event_word))]
 pub(crate) fn event_word(out: &mut [u8], at: usize, kind: u8) -> usize
     requires { at + 5 ≤ length out.old }
     ensures { Appended (event_word kind) out.old at out.new result }

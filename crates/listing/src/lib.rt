@@ -46,6 +46,7 @@ pub fn event_line(out: &mut [u8], at: usize, instant: u64, kind: u8, value: u8, 
 }
 
 // The same, where there is room for it.
+#[tactic(auto, using(crate::proofs::Digits::decimal_length, crate::proofs::Lines::event_word_length))]
 fn event(out: &mut [u8], at: usize, instant: u64, kind: u8, value: u8, answer: u8) -> usize
     requires { at + 48 ≤ length out.old }
     ensures { Appended (event_line instant kind value answer) out.old at out.new result }
@@ -61,6 +62,7 @@ fn event(out: &mut [u8], at: usize, instant: u64, kind: u8, value: u8, answer: u
 }
 
 // The line of a report, where there is room for it.
+#[tactic(auto, using(crate::proofs::Digits::decimal_length, crate::proofs::Lines::report_word_length, crate::proofs::Lines::columns_length))]
 fn report(out: &mut [u8], at: usize, diagnostic: I2cDiagnostic) -> usize
     requires { at + 48 ≤ length out.old }
     ensures { Appended (diagnostic_line diagnostic) out.old at out.new result }
@@ -86,6 +88,7 @@ pub fn dropped_line(out: &mut [u8], at: usize, count: u64) -> usize
 }
 
 // The same, where there is room for it.
+#[tactic(auto, using(crate::proofs::Digits::decimal_length))]
 fn dropped(out: &mut [u8], at: usize, count: u64) -> usize
     requires { at + 48 ≤ length out.old }
     ensures { Appended (dropped_line count) out.old at out.new result }
@@ -106,6 +109,7 @@ pub fn refused_line(out: &mut [u8], at: usize, number: u8, has_record: bool, rec
 }
 
 // The same, where there is room for it.
+#[tactic(auto, using(crate::proofs::Digits::byte_length, crate::proofs::Lines::record_length))]
 fn refused(out: &mut [u8], at: usize, number: u8, has_record: bool, record: u64) -> usize
     requires { at + 48 ≤ length out.old }
     ensures { Appended (refused_line number (record_of has_record «record»)) out.old at out.new result }

@@ -1,7 +1,12 @@
 -- Where a transfer of a slice may stop. Assumes nothing.
-use Rattle.computed.specs.Prelude.{ℕ, ◌<◌, ◌≡◌, ℤ, pos, negsuc}
+use Rattle.computed.specs.Prelude.{ℕ, ◌<◌, ◌≤◌, ◌≡◌, ℤ, pos, negsuc}
 use Rattle.streams.specs.declared.Transfer.{Transfer}
 use Rattle.streams.specs.declared.Transfer.TheVariants.{Whole, Stopped}
+
+-- what a call that is lent n bytes may answer: -1 where it failed, or how many bytes it moved, at most n
+abbrev pub Moved : ℕ → ℤ → Type 0
+Moved n (pos k) = k ≤ n
+Moved n (negsuc k) = k ≡ 0
 
 -- how many bytes a call moved that gave this answer: none where it failed
 abbrev pub bytes_moved : ℤ → ℕ

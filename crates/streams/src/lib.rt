@@ -1,12 +1,11 @@
-// Standard input and output, whole: calls of `read` and `write` until nothing is left to move, or until one moves nothing.
+// Input and output, whole: calls of `read` and `write` until nothing is left to move, or until one moves nothing.
 // To read it: `specs/Transfers.antt` has where a transfer may stop. No contract can say which bytes the system moves.
 #![tactic(auto)]
 
 ghost use Rattle.std.specs.Prelude.{◌≡◌, ◌≤◌, ◌-◌, length, take};
-ghost use Rattle.libc.specs.Io.{Moved};
-ghost use Rattle.streams.specs.Transfers.{bytes_moved, Transferred};
+ghost use Rattle.streams.specs.Transfers.{bytes_moved, Moved, Transferred};
 
-use libc::{STDIN_FILENO, STDOUT_FILENO};
+use std::io::{Read, Write};
 
 // What became of a slice that was to be read or written.
 #[derive(Clone, Copy)]
@@ -17,13 +16,13 @@ pub enum Transfer {
     Stopped { count: usize, answer: isize },
 }
 
-// Reads until `input` is full, the input ends or a read fails.
-pub fn read_input(input: &mut [u8]) -> Transfer
+// Reads until `input` is full, the reader ends or a read fails.
+pub fn read_input<R: Read>(reader: &mut R, input: &mut [u8]) -> Transfer
     ensures { Transferred (length input.old) result }
 {
     let mut count = 0;
     while count < input.len() {
-        let answer = read_behind(input, count);
+        let answer = read_behind(reader, input, count);
         let more = bytes_moved(answer);
         if more == 0 {
             return Transfer::Stopped { count, answer };
@@ -34,21 +33,24 @@ pub fn read_input(input: &mut [u8]) -> Transfer
 }
 
 // One read, behind the first `count` bytes, which stay.
-fn read_behind(input: &mut [u8], count: usize) -> isize
+fn read_behind<R: Read>(reader: &mut R, input: &mut [u8], count: usize) -> isize
     requires { count ≤ length input.old }
     ensures moved { Moved (length input.old - count) result }
     ensures input_unchanged { take count input.new ≡ take count input.old }
 {
-    libc::read(STDIN_FILENO, &mut input[count..])
+    match reader.read(&mut input[count..]) {
+        Ok(more) => more as isize,
+        Err(_) => -1,
+    }
 }
 
 // Writes until all of `output` is written or a write moves nothing.
-pub fn write_output(output: &[u8]) -> Transfer
+pub fn write_output<W: Write>(writer: &mut W, output: &[u8]) -> Transfer
     ensures { Transferred (length output.now) result }
 {
     let mut count = 0;
     while count < output.len() {
-        let answer = write_behind(output, count);
+        let answer = write_behind(writer, output, count);
         let written = bytes_moved(answer);
         if written == 0 {
             return Transfer::Stopped { count, answer };
@@ -59,11 +61,14 @@ pub fn write_output(output: &[u8]) -> Transfer
 }
 
 // One write, of what stands behind the first `count` bytes.
-fn write_behind(output: &[u8], count: usize) -> isize
+fn write_behind<W: Write>(writer: &mut W, output: &[u8], count: usize) -> isize
     requires { count ≤ length output.now }
     ensures { Moved (length output.now - count) result }
 {
-    libc::write(STDOUT_FILENO, &output[count..])
+    match writer.write(&output[count..]) {
+        Ok(written) => written as isize,
+        Err(_) => -1,
+    }
 }
 
 // How many bytes a call moved, by its answer.

@@ -1,0 +1,9 @@
+-- Every turn leaves fewer bytes.
+use Rattle.std.proofs.Common.{◌≤◌, ◌-◌, length}
+use Rattle.streams.proofs.write_output.Given as goal
+
+abbrev pub invariant-loop-count : goal.invariant-loop-count
+invariant-loop-count g l = l.count ≤ length l.output
+
+abbrev pub decreases-loop-count : goal.decreases-loop-count
+decreases-loop-count g l = length l.output - l.count

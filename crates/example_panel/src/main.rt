@@ -15,27 +15,27 @@ use ds3231_chip::{dropped_diagnostics, now, power_on, register};
 use script::{RunOutcome, run_values};
 use streams::{Transfer, read_input};
 
-fn main() {
+fn main(rt: HostRuntime) {
     let mut script = [0u8; 80];
-    match read_input(&mut script) {
-        Transfer::Whole => panel(script),
-        Transfer::Stopped { .. } => text::no_script(),
+    match read_input(&mut rt.stdin(), &mut script) {
+        Transfer::Whole => panel(&rt, script),
+        Transfer::Stopped { .. } => text::no_script(&rt),
     }
 }
 
 // Sets a chip's hour, polls its status by a script of five records, and takes what was reported; then another chip.
-fn panel(script: [u8; 80]) {
-    let session = set_the_hour(begun(powered()));
-    let outcome = poll(session, script);
-    take(outcome);
-    run_elsewhere(powered(), script);
+fn panel(rt: &impl Print, script: [u8; 80]) {
+    let session = set_the_hour(rt, begun(powered(rt)));
+    let outcome = poll(rt, session, script);
+    take(rt, outcome);
+    run_elsewhere(rt, powered(rt), script);
 }
 
 // A chip at power-on.
-fn powered() -> Ds3231 {
+fn powered(rt: &impl Print) -> Ds3231 {
     let powered = power_on(lost_battery());
     let answer = powered.answer;
-    text::power_on(answer);
+    text::power_on(rt, answer);
     powered.chip
 }
 
@@ -69,17 +69,17 @@ fn begun(chip: Ds3231) -> Session {
 }
 
 // Sets the hour to 1 PM, writes a weekday that is none, and asks the chip at 2.5 s.
-fn set_the_hour(session: Session) -> Session {
-    let session = told(address_on(session, values(0x68, 1_000_000_000)));
-    let session = told(write_on(session, values(0x02, 1_000_100_000)));
-    let session = told(write_on(session, values(0x61, 1_000_200_000)));
-    let session = told(write_on(session, values(0x08, 1_000_300_000)));
-    let session = told(stop_on(session, values(0, 1_000_400_000)));
+fn set_the_hour(rt: &impl Print, session: Session) -> Session {
+    let session = told(rt, address_on(session, values(0x68, 1_000_000_000)));
+    let session = told(rt, write_on(session, values(0x02, 1_000_100_000)));
+    let session = told(rt, write_on(session, values(0x61, 1_000_200_000)));
+    let session = told(rt, write_on(session, values(0x08, 1_000_300_000)));
+    let session = told(rt, stop_on(session, values(0, 1_000_400_000)));
     let chip = session.chip;
-    text::now(now(chip, 2_500_000_000));
-    text::register(register(chip, 0x11, 2_500_000_000));
-    text::register(register(chip, 0x12, 2_500_000_000));
-    text::dropped(dropped_diagnostics(chip));
+    text::now(rt, now(chip, 2_500_000_000));
+    text::register(rt, register(chip, 0x11, 2_500_000_000));
+    text::register(rt, register(chip, 0x12, 2_500_000_000));
+    text::dropped(rt, dropped_diagnostics(chip));
     session
 }
 
@@ -93,39 +93,39 @@ fn values(value: u8, at: u64) -> Values {
 }
 
 // Prints what the last call answered.
-fn told(session: Session) -> Session {
+fn told(rt: &impl Print, session: Session) -> Session {
     let answer = session.answer;
-    text::bus(answer);
+    text::bus(rt, answer);
     session
 }
 
 // Runs the script on the session's chip and store.
-fn poll(session: Session, script: [u8; 80]) -> RunOutcome {
+fn poll(rt: &impl Print, session: Session, script: [u8; 80]) -> RunOutcome {
     let chip = session.chip;
     let store = session.store;
     let mut answers = [0u8; 5];
     let outcome = run_on(chip, store, &script, &mut answers);
     let answer = outcome.answer;
-    text::run(answer, answers);
+    text::run(rt, answer, answers);
     outcome
 }
 
 // Takes the diagnostics that wait.
-fn take(outcome: RunOutcome) {
+fn take(rt: &impl Print, outcome: RunOutcome) {
     let chip = outcome.chip;
     let records = outcome.records;
     let unwritten = I2cDiagnostic::unwritten();
     let emptied = take_on(chip, records, [unwritten; 256]);
     let answer = emptied.answer;
     let out = emptied.out;
-    text::taken(answer, out);
+    text::taken(rt, answer, out);
 }
 
 // Runs the script on another chip, by value.
-fn run_elsewhere(chip: Ds3231, script: [u8; 80]) {
+fn run_elsewhere(rt: &impl Print, chip: Ds3231, script: [u8; 80]) {
     let unwritten = I2cDiagnostic::unwritten();
     let mut answers = [0u8; 5];
     let outcome = run_values(chip, [unwritten; 256], &script, &mut answers);
     let answer = outcome.answer;
-    text::run(answer, answers);
+    text::run(rt, answer, answers);
 }

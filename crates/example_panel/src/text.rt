@@ -8,114 +8,104 @@ use listing::{LINE, diagnostic_lines};
 use script::RunAnswer;
 use script_listing::within;
 
-pub(crate) fn no_script() {
-    line(b"the script has fewer than five records");
+pub(crate) fn no_script(rt: &impl Print) {
+    line(rt, "the script has fewer than five records");
 }
 
-pub(crate) fn power_on(answer: PowerOnAnswer) {
+pub(crate) fn power_on(rt: &impl Print, answer: PowerOnAnswer) {
     match answer {
-        PowerOnAnswer::On => line(b"ok"),
-        _ => refused(),
+        PowerOnAnswer::On => line(rt, "ok"),
+        _ => refused(rt),
     }
 }
 
-pub(crate) fn bus(answer: BusAnswer) {
+pub(crate) fn bus(rt: &impl Print, answer: BusAnswer) {
     match answer {
         BusAnswer::Replied(reply) => match reply {
-            Reply::Acknowledge(given) => byte(given as u8),
-            Reply::Byte(read) => byte(read),
-            Reply::Done => byte(0),
+            Reply::Acknowledge(given) => byte(rt, given as u8),
+            Reply::Byte(read) => byte(rt, read),
+            Reply::Done => byte(rt, 0),
         },
-        _ => refused(),
+        _ => refused(rt),
     }
 }
 
-pub(crate) fn now(answer: NowResult) {
+pub(crate) fn now(rt: &impl Print, answer: NowResult) {
     match answer {
-        NowResult::Ok(shown) => time(shown),
-        NowResult::NotSound => refused(),
+        NowResult::Ok(shown) => time(rt, shown),
+        NowResult::NotSound => refused(rt),
     }
 }
 
-pub(crate) fn register(answer: RegisterResult) {
+pub(crate) fn register(rt: &impl Print, answer: RegisterResult) {
     match answer {
-        RegisterResult::Ok(shown) => byte(shown),
-        _ => refused(),
+        RegisterResult::Ok(shown) => byte(rt, shown),
+        _ => refused(rt),
     }
 }
 
-pub(crate) fn dropped(answer: DroppedResult) {
+pub(crate) fn dropped(rt: &impl Print, answer: DroppedResult) {
     match answer {
-        DroppedResult::Ok(count) => number(count),
-        DroppedResult::NotSound => refused(),
+        DroppedResult::Ok(count) => number(rt, count),
+        DroppedResult::NotSound => refused(rt),
     }
 }
 
-pub(crate) fn run(answer: RunAnswer, answers: [u8; 5]) {
+pub(crate) fn run(rt: &impl Print, answer: RunAnswer, answers: [u8; 5]) {
     match answer {
         RunAnswer::Done => {
-            byte(answers[0]);
-            byte(answers[1]);
-            byte(answers[2]);
-            byte(answers[3]);
-            byte(answers[4]);
+            byte(rt, answers[0]);
+            byte(rt, answers[1]);
+            byte(rt, answers[2]);
+            byte(rt, answers[3]);
+            byte(rt, answers[4]);
         }
-        _ => refused(),
+        _ => refused(rt),
     }
 }
 
-pub(crate) fn taken(answer: TakeAnswer, out: [I2cDiagnostic; 256]) {
+pub(crate) fn taken(rt: &impl Print, answer: TakeAnswer, out: [I2cDiagnostic; 256]) {
     match answer {
         TakeAnswer::Taken(count) => {
-            number(count as u64);
-            diagnostics(out, count);
+            number(rt, count as u64);
+            diagnostics(rt, out, count);
         }
-        _ => refused(),
+        _ => refused(rt),
     }
 }
 
-fn diagnostics(records: [I2cDiagnostic; 256], count: usize) {
+fn diagnostics(rt: &impl Print, records: [I2cDiagnostic; 256], count: usize) {
     let mut text = [0u8; LINE * 256];
     let n = diagnostic_lines(&mut text, 0, records, count);
     let n = within(n, &text);
-    io::write_all(1, &text[..n]);
+    let _ = rt.write_all(&text[..n]);
 }
 
 // No call of this program is refused: a line that the file `stdout` does not have.
-fn refused() {
-    line(b"refused");
+fn refused(rt: &impl Print) {
+    line(rt, "refused");
 }
 
-fn line(text: &[u8]) {
-    io::write_all(1, text);
-    io::write_all(1, b"\n");
+// What cannot be written is lost.
+fn line(rt: &impl Print, text: &str) {
+    let _ = println!(rt; "{text}");
 }
 
-fn number(count: u64) {
-    io::print_decimal(1, count);
-    line(b"");
+fn number(rt: &impl Print, count: u64) {
+    let _ = println!(rt; "{count}");
 }
 
-fn byte(value: u8) {
-    io::print_hex(1, value as u64, 2);
-    line(b"");
+fn byte(rt: &impl Print, value: u8) {
+    let _ = println!(rt; "{value:02x}");
 }
 
 // `2026-01-01T00:00:00`.
-fn time(t: DateTime) {
-    io::print_decimal(1, t.year as u64);
-    two_digits(b"-", t.month);
-    two_digits(b"-", t.day);
-    two_digits(b"T", t.hour);
-    two_digits(b":", t.minute);
-    two_digits(b":", t.second);
-    line(b"");
-}
-
-fn two_digits(before: &[u8], field: u8) {
-    io::write_all(1, before);
-    if field < 10 {
-        io::write_all(1, b"0");
-    }
-    io::print_decimal(1, field as u64);
+fn time(rt: &impl Print, t: DateTime) {
+    let year = t.year;
+    let month = t.month;
+    let day = t.day;
+    let hour = t.hour;
+    let minute = t.minute;
+    let second = t.second;
+    let _ = println!(rt; "{year}-{month:02}-{day:02}T{hour:02}:{minute:02}:{second:02}");
 }

@@ -2,8 +2,7 @@
 // To read it: `specs/Listing.antt` has the listing of a script, or the line of its refusal; the lines are `listing`'s.
 #![tactic(auto)]
 
-ghost use Rattle.std.specs.Prelude.{◌≡◌, ◌+◌, ◌*◌, ◌/◌, ◌≤◌, min, length};
-ghost use Rattle.io.specs.Counts.{IsPrefixLen};
+ghost use Rattle.std.specs.Prelude.{◌≡◌, ◌+◌, ◌*◌, ◌/◌, ◌≤◌, min, length, take};
 ghost use Rattle.listing.specs.Appended.{Appended};
 ghost use Rattle.script.specs.Records.{records_in};
 ghost use Rattle.script.specs.Runs.{held_at, answers_to, clockrun_held};
@@ -110,7 +109,8 @@ fn event_lines(script: &[u8], answers: &[u8], out: &mut [u8], at: usize) -> usiz
 // A number of the bytes of a slice: `n`, or all of them.
 pub fn within(n: usize, bytes: &[u8]) -> usize
     ensures value { result ≡ min n (length bytes.now) }
-    ensures prefix_len { IsPrefixLen result bytes.now }
+    ensures in_bounds { result ≤ length bytes.now }
+    ensures prefix_len { result ≡ length (take result bytes.now) }
 {
     if n <= bytes.len() {
         return n;

@@ -32,6 +32,16 @@ pub fn read_input<R: Read>(reader: &mut R, input: &mut [u8]) -> Transfer
     Transfer::Whole
 }
 
+// Reads as `read_input` does, and answers how many bytes stand at the start of `input`.
+pub fn read_full<R: Read>(reader: &mut R, input: &mut [u8]) -> usize
+    ensures { result ≤ length input.new }
+{
+    match read_input(reader, input) {
+        Transfer::Whole => input.len(),
+        Transfer::Stopped { count, .. } => count,
+    }
+}
+
 // One read, behind the first `count` bytes, which stay.
 fn read_behind<R: Read>(reader: &mut R, input: &mut [u8], count: usize) -> isize
     requires { count ≤ length input.old }

@@ -10,6 +10,7 @@
 use calendar::{
     DateTime, FromSecondsResult, SECONDS_PER_DAY, SecondsResult, WeekdayResult, days_in_month,
 };
+use std::io;
 
 const MODULUS: u64 = 4_294_967_291;
 
@@ -80,35 +81,35 @@ fn folded_year(sum: u64, year: u16) -> u64 {
     months
 }
 
-fn print_day(day: u32) {
+fn print_day(rt: &impl Print, day: u32) -> io::Result<()> {
     match DateTime::from_seconds_since_2000(day as u64 * SECONDS_PER_DAY) {
         FromSecondsResult::Ok(t) => {
-            io::print_decimal(1, t.year as u64);
-            io::write_all(1, b"-");
-            io::print_decimal(1, t.month as u64);
-            io::write_all(1, b"-");
-            io::print_decimal(1, t.day as u64);
-            io::write_all(1, b" weekday ");
-            io::print_decimal(1, weekday_of(t));
+            let year = t.year;
+            let month = t.month;
+            let day = t.day;
+            let weekday = weekday_of(t);
+            print!(rt; "{year}-{month}-{day} weekday {weekday}")
         }
-        FromSecondsResult::OutOfRange => {
-            io::write_all(1, b"refused");
-        }
+        FromSecondsResult::OutOfRange => print!(rt; "refused"),
     }
 }
 
-fn print_century(first_year: u16, last_year: u16, first_day: u32, last_day: u32) {
-    print_day(first_day);
-    io::write_all(1, b" to ");
-    print_day(last_day);
-    io::write_all(1, b": days ");
-    io::print_decimal(1, days_checksum(first_day, last_day));
-    io::write_all(1, b", months ");
-    io::print_decimal(1, months_checksum(first_year, last_year));
-    io::write_all(1, b"\n");
+fn print_century(
+    rt: &impl Print,
+    first_year: u16,
+    last_year: u16,
+    first_day: u32,
+    last_day: u32,
+) -> io::Result<()> {
+    print_day(rt, first_day)?;
+    print!(rt; " to ")?;
+    print_day(rt, last_day)?;
+    let days = days_checksum(first_day, last_day);
+    let months = months_checksum(first_year, last_year);
+    println!(rt; ": days {days}, months {months}")
 }
 
-fn main() {
-    print_century(2000, 2099, 0, 36_524);
-    print_century(2100, 2199, 36_525, 73_048);
+fn main(rt: HostRuntime) -> io::Result<()> {
+    print_century(&rt, 2000, 2099, 0, 36_524)?;
+    print_century(&rt, 2100, 2199, 36_525, 73_048)
 }

@@ -1,25 +1,27 @@
 // Blocks on standard input: each is its length in four bytes, lowest first, then so many bytes.
-ghost use Rattle.io.specs.Counts.{IsPrefixLen};
+ghost use Rattle.std.specs.Prelude.{◌≡◌, ◌≤◌, length, take};
 
-use libc::STDIN_FILENO;
+use std::io::Read;
+use streams::read_full;
 
 // The bytes of a block's length.
 const HEADER: usize = 4;
 
 // Reads a block to the start of `block` and answers its length; 0 at the end of the input, and for a block that is
 // longer than `block`.
-pub(crate) fn read(block: &mut [u8]) -> usize
-    ensures { IsPrefixLen result block.new }
+pub(crate) fn read<R: Read>(reader: &mut R, block: &mut [u8]) -> usize
+    ensures in_bounds { result ≤ length block.new }
+    ensures prefix_len { result ≡ length (take result block.new) }
 {
-    let length = fitting(length(), block);
-    let n = io::read_full(STDIN_FILENO, &mut block[..length]);
+    let length = fitting(length(reader), block);
+    let n = read_full(reader, &mut block[..length]);
     fitting(n, block)
 }
 
 // The length of the block that comes; 0 at the end of the input.
-fn length() -> usize {
+fn length<R: Read>(reader: &mut R) -> usize {
     let mut header = [0u8; 4];
-    if io::read_full(STDIN_FILENO, &mut header) < HEADER {
+    if read_full(reader, &mut header) < HEADER {
         return 0;
     }
     number4(header[0], header[1], header[2], header[3])
@@ -32,7 +34,8 @@ fn number4(a: u8, b: u8, c: u8, d: u8) -> usize {
 
 // A number of bytes of `block`: `n`, or 0 where `block` has fewer.
 fn fitting(n: usize, block: &[u8]) -> usize
-    ensures { IsPrefixLen result block.now }
+    ensures in_bounds { result ≤ length block.now }
+    ensures prefix_len { result ≡ length (take result block.now) }
 {
     if n <= block.len() {
         return n;

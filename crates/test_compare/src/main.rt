@@ -7,25 +7,26 @@ mod blocks;
 
 const SCRIPTS: u8 = 1;
 
-fn main() {
-    let mut block = io::large_buffer();
+fn main(rt: HostRuntime) {
+    let mut stdin = rt.stdin();
+    let mut block = [0u8; 65_536];
     for _ in 0..4_294_967_295u32 {
-        let n = blocks::read(&mut block);
+        let n = blocks::read(&mut stdin, &mut block);
         if n == 0 {
             return;
         }
-        answer(&block[..n]);
+        answer(&rt, &block[..n]);
     }
 }
 
 // Prints the answers of a block's lists of calls, or the listings of its scripts.
-fn answer(block: &[u8]) {
+fn answer(rt: &impl Print, block: &[u8]) {
     if block.len() == 0 {
         return;
     }
     if block[0] == SCRIPTS {
-        test_replaying_scripts::replay(&block[1..]);
+        test_replaying_scripts::replay(rt, &block[1..]);
     } else {
-        test_replaying::replay(&block[1..]);
+        test_replaying::replay(rt, &block[1..]);
     }
 }

@@ -14,17 +14,17 @@ use ds3231_chip::power_on;
 // The instant in a record that no report was written to.
 const NO_REPORT: u64 = 1_000;
 
-fn main() {
+fn main(rt: HostRuntime) {
     let full = calls(begun(), 0, 300);
-    counts_of(full);
-    let emptied = take_all(full);
-    first_and_last(emptied);
+    counts_of(&rt, full);
+    let emptied = take_all(&rt, full);
+    first_and_last(&rt, emptied);
     let again = calls(after(full, emptied), 300, 303);
-    counts_of(again);
-    in_store(again);
-    takings(again);
-    refused_call(begun());
-    reports();
+    counts_of(&rt, again);
+    in_store(&rt, again);
+    takings(&rt, again);
+    refused_call(&rt, begun());
+    reports(&rt);
 }
 
 // A chip at power-on, with a store to which nothing was written.
@@ -71,47 +71,45 @@ fn values(value: u8, at: u64) -> Values {
 }
 
 // How many records wait, and how many reports were dropped.
-fn counts_of(session: Session) {
+fn counts_of(rt: &impl Print, session: Session) {
     let chip = session.chip;
     let counts = chip.diagnostics;
-    print_counts(counts);
+    print_counts(rt, counts);
 }
 
-fn print_counts(counts: Diagnostics) {
-    line(b"waiting", counts.waiting as u64);
-    line(b"dropped", counts.dropped);
+fn print_counts(rt: &impl Print, counts: Diagnostics) {
+    line(rt, "waiting", counts.waiting as u64);
+    line(rt, "dropped", counts.dropped);
 }
 
-fn line(word: &[u8], number: u64) {
-    io::write_all(1, word);
-    io::write_all(1, b",");
-    io::print_decimal(1, number);
-    io::write_all(1, b"\n");
+// What cannot be written is lost.
+fn line(rt: &impl Print, word: &str, number: u64) {
+    let _ = println!(rt; "{word},{number}");
 }
 
-fn take_all(session: Session) -> Emptied {
+fn take_all(rt: &impl Print, session: Session) -> Emptied {
     let chip = session.chip;
     let store = session.store;
     let unwritten = unwritten();
     let emptied = take_on(chip, store, [unwritten; 256]);
     let answer = emptied.answer;
-    print_taking(answer);
+    print_taking(rt, answer);
     emptied
 }
 
-fn print_taking(answer: TakeAnswer) {
+fn print_taking(rt: &impl Print, answer: TakeAnswer) {
     match answer {
-        TakeAnswer::Taken(count) => line(b"taken", count as u64),
-        TakeAnswer::NotSound => line(b"refused", 10),
-        TakeAnswer::StoreLength => line(b"refused", 11),
-        TakeAnswer::OutTooShort => line(b"refused", 12),
+        TakeAnswer::Taken(count) => line(rt, "taken", count as u64),
+        TakeAnswer::NotSound => line(rt, "refused", 10),
+        TakeAnswer::StoreLength => line(rt, "refused", 11),
+        TakeAnswer::OutTooShort => line(rt, "refused", 12),
     }
 }
 
-fn first_and_last(emptied: Emptied) {
+fn first_and_last(rt: &impl Print, emptied: Emptied) {
     let out = emptied.out;
-    line(b"out 0", out[0].at);
-    line(b"out 255", out[255].at);
+    line(rt, "out 0", out[0].at);
+    line(rt, "out 255", out[255].at);
 }
 
 // The store with the chip after a taking.
@@ -127,50 +125,50 @@ fn after(session: Session, emptied: Emptied) -> Session {
 }
 
 // After three reports more: the first three places are written again, the fourth holds the record of report 3.
-fn in_store(session: Session) {
+fn in_store(rt: &impl Print, session: Session) {
     let store = session.store;
-    line(b"store 0", store[0].at);
-    line(b"store 2", store[2].at);
-    line(b"store 3", store[3].at);
+    line(rt, "store 0", store[0].at);
+    line(rt, "store 2", store[2].at);
+    line(rt, "store 3", store[3].at);
 }
 
 // Three wait: two records are too few. Then 256 records, of which the fourth stays; then two for two.
-fn takings(three: Session) {
-    refused_taking(three);
-    let emptied = take_all(three);
+fn takings(rt: &impl Print, three: Session) {
+    refused_taking(rt, three);
+    let emptied = take_all(rt, three);
     let out = emptied.out;
-    line(b"out 0", out[0].at);
-    line(b"out 2", out[2].at);
-    line(b"out 3", out[3].at);
+    line(rt, "out 0", out[0].at);
+    line(rt, "out 2", out[2].at);
+    line(rt, "out 3", out[3].at);
     let two = calls(after(three, emptied), 303, 305);
-    counts_of(two);
-    take_two(two);
+    counts_of(rt, two);
+    take_two(rt, two);
 }
 
-fn take_two(session: Session) -> ShortEmptied {
+fn take_two(rt: &impl Print, session: Session) -> ShortEmptied {
     let chip = session.chip;
     let store = session.store;
     let unwritten = unwritten();
     let emptied = take_short(chip, store, [unwritten; 2]);
     let answer = emptied.answer;
-    print_taking(answer);
+    print_taking(rt, answer);
     let out = emptied.out;
-    line(b"out 0", out[0].at);
-    line(b"out 1", out[1].at);
+    line(rt, "out 0", out[0].at);
+    line(rt, "out 1", out[1].at);
     emptied
 }
 
 // A taking that is refused leaves output and counts.
-fn refused_taking(session: Session) {
-    let emptied = take_two(session);
+fn refused_taking(rt: &impl Print, session: Session) {
+    let emptied = take_two(rt, session);
     let chip = emptied.chip;
     let counts = chip.diagnostics;
-    print_counts(counts);
+    print_counts(rt, counts);
 }
 
 // START, then WRITE 00 with a store of 255 records, which is refused. The chip still waits for the pointer: it takes 0E for
 // it, and a read gives control.
-fn refused_call(session: Session) {
+fn refused_call(rt: &impl Print, session: Session) {
     let addressed = address_on(session, values(0x68, 1));
     let chip = addressed.chip;
     let unwritten = unwritten();
@@ -181,16 +179,16 @@ fn refused_call(session: Session) {
     };
     let refused = write_short(short, values(0x00, 2));
     let answer = refused.answer;
-    print_answer(answer);
+    print_answer(rt, answer);
     let store = refused.store;
-    line(b"store 0", store[0].at);
+    line(rt, "store 0", store[0].at);
     let chip = refused.chip;
     let whole = with_chip(addressed, chip);
     let pointed = write_on(whole, values(0x0E, 3));
     let answer = pointed.answer;
-    print_answer(answer);
-    counts_of(pointed);
-    read_back(pointed);
+    print_answer(rt, answer);
+    counts_of(rt, pointed);
+    read_back(rt, pointed);
 }
 
 fn with_chip(session: Session, chip: Ds3231) -> Session {
@@ -203,7 +201,7 @@ fn with_chip(session: Session, chip: Ds3231) -> Session {
     }
 }
 
-fn read_back(session: Session) {
+fn read_back(rt: &impl Print, session: Session) {
     let reading = Values {
         value: 0x68,
         bit: true,
@@ -211,27 +209,27 @@ fn read_back(session: Session) {
     };
     let read = read_on(address_on(session, reading), values(0, 5));
     let answer = read.answer;
-    print_answer(answer);
+    print_answer(rt, answer);
 }
 
-fn print_answer(answer: BusAnswer) {
+fn print_answer(rt: &impl Print, answer: BusAnswer) {
     match answer {
-        BusAnswer::Replied(reply) => print_reply(reply),
-        BusAnswer::NotSound => line(b"refused", 10),
-        BusAnswer::StoreLength => line(b"refused", 11),
+        BusAnswer::Replied(reply) => print_reply(rt, reply),
+        BusAnswer::NotSound => line(rt, "refused", 10),
+        BusAnswer::StoreLength => line(rt, "refused", 11),
     }
 }
 
-fn print_reply(reply: Reply) {
+fn print_reply(rt: &impl Print, reply: Reply) {
     match reply {
-        Reply::Acknowledge(acknowledged) => line(b"acknowledge", acknowledged as u64),
-        Reply::Byte(byte) => line(b"byte", byte as u64),
-        Reply::Done => line(b"done", 0),
+        Reply::Acknowledge(acknowledged) => line(rt, "acknowledge", acknowledged as u64),
+        Reply::Byte(byte) => line(rt, "byte", byte as u64),
+        Reply::Done => line(rt, "done", 0),
     }
 }
 
 // 300 reports by `report` itself; then one with counts of which 257 wait.
-fn reports() {
+fn reports(rt: &impl Print) {
     let unwritten = unwritten();
     let store = [unwritten; 256];
     let none = Diagnostics {
@@ -244,10 +242,10 @@ fn reports() {
         answer: ReportAnswer::Done,
     });
     let counts = full.counts;
-    print_counts(counts);
+    print_counts(rt, counts);
     let store = full.store;
-    line(b"store 0", store[0].at);
-    line(b"store 255", store[255].at);
+    line(rt, "store 0", store[0].at);
+    line(rt, "store 255", store[255].at);
     let too_many = Diagnostics {
         waiting: 257,
         dropped: 44,
@@ -261,11 +259,11 @@ fn reports() {
         300,
     );
     let answer = refused.answer;
-    print_report(answer);
+    print_report(rt, answer);
     let counts = refused.counts;
-    print_counts(counts);
+    print_counts(rt, counts);
     let store = refused.store;
-    line(b"store 255", store[255].at);
+    line(rt, "store 255", store[255].at);
 }
 
 fn report_300(reporting: Reporting) -> Reporting {
@@ -284,10 +282,10 @@ fn one_report(reporting: Reporting, at: u64) -> Reporting {
     report_on(reporting, values)
 }
 
-fn print_report(answer: ReportAnswer) {
+fn print_report(rt: &impl Print, answer: ReportAnswer) {
     match answer {
-        ReportAnswer::Done => line(b"done", 0),
-        ReportAnswer::NotSound => line(b"refused", 10),
-        ReportAnswer::StoreLength => line(b"refused", 11),
+        ReportAnswer::Done => line(rt, "done", 0),
+        ReportAnswer::NotSound => line(rt, "refused", 10),
+        ReportAnswer::StoreLength => line(rt, "refused", 11),
     }
 }

@@ -2,8 +2,10 @@
 // The file `stdin` is vectors/calls.in, and `stdout` has the answers of the Rust, vectors/calls.out.
 #![tactic(auto)]
 
-fn main() {
-    let mut input = io::large_buffer();
-    let n = io::read_full(0, &mut input);
-    test_replaying::replay(&input[..n]);
+use streams::read_full;
+
+fn main(rt: HostRuntime) {
+    let mut input = [0u8; 65_536];
+    let n = read_full(&mut rt.stdin(), &mut input);
+    test_replaying::replay(&rt, &input[..n]);
 }

@@ -3,8 +3,10 @@
 // The files `stdin` and `stdout` are those of tools/reference/checks, which is written from documents 01 and 02.
 #![tactic(auto)]
 
-fn main() {
+use streams::read_full;
+
+fn main(rt: HostRuntime) {
     let mut input = [0u8; 335_872];
-    let n = io::read_full(0, &mut input);
-    test_replaying_scripts::replay(&input[..n]);
+    let n = read_full(&mut rt.stdin(), &mut input);
+    test_replaying_scripts::replay(&rt, &input[..n]);
 }

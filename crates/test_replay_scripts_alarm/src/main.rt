@@ -2,8 +2,10 @@
 // The file `stdin` is vectors/scripts_alarm.in, and `stdout` has the answers of the Rust, vectors/scripts_alarm.out.
 #![tactic(auto)]
 
-fn main() {
+use streams::read_full;
+
+fn main(rt: HostRuntime) {
     let mut input = [0u8; 147_456];
-    let n = io::read_full(0, &mut input);
-    test_replaying_scripts::replay(&input[..n]);
+    let n = read_full(&mut rt.stdin(), &mut input);
+    test_replaying_scripts::replay(&rt, &input[..n]);
 }

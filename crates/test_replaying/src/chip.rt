@@ -6,7 +6,7 @@ use ds3231::{Ds3231, Ds3231Config, Reply};
 use ds3231_bus::BusAnswer;
 use ds3231_chip::{DroppedResult, NowResult, PowerOnAnswer, RegisterResult};
 
-pub(crate) fn on(record: [u8; 16]) -> Session {
+pub(crate) fn on(rt: &impl Print, record: [u8; 16]) -> Session {
     let start = record::time(record);
     let config = Ds3231Config {
         start,
@@ -15,7 +15,7 @@ pub(crate) fn on(record: [u8; 16]) -> Session {
     };
     let powered = ds3231_chip::power_on(config);
     let answer = powered.answer;
-    on_answer(answer);
+    on_answer(rt, answer);
     with_store(powered.chip)
 }
 
@@ -35,18 +35,18 @@ fn with_store(chip: Ds3231) -> Session {
     }
 }
 
-fn on_answer(answer: PowerOnAnswer) {
+fn on_answer(rt: &impl Print, answer: PowerOnAnswer) {
     match answer {
-        PowerOnAnswer::On => text::ok(),
-        PowerOnAnswer::Start(error) => text::error(error),
-        PowerOnAnswer::Temperature(quarters) => text::quarters_refused(quarters),
+        PowerOnAnswer::On => text::ok(rt),
+        PowerOnAnswer::Start(error) => text::error(rt, error),
+        PowerOnAnswer::Temperature(quarters) => text::quarters_refused(rt, quarters),
     }
 }
 
-pub(crate) fn event(record: [u8; 16], before: Session) -> Session {
+pub(crate) fn event(rt: &impl Print, record: [u8; 16], before: Session) -> Session {
     let after = called(record, before);
     let answer = after.answer;
-    event_answer(answer);
+    event_answer(rt, answer);
     after
 }
 
@@ -74,49 +74,49 @@ fn bit(record: [u8; 16], kind: u8) -> bool {
     record::byte(record) == 1
 }
 
-fn event_answer(answer: BusAnswer) {
+fn event_answer(rt: &impl Print, answer: BusAnswer) {
     match answer {
-        BusAnswer::Replied(reply) => event_reply(reply),
-        BusAnswer::NotSound => text::not_sound(),
-        BusAnswer::StoreLength => text::refused(11),
+        BusAnswer::Replied(reply) => event_reply(rt, reply),
+        BusAnswer::NotSound => text::not_sound(rt),
+        BusAnswer::StoreLength => text::refused(rt, 11),
     }
 }
 
-fn event_reply(reply: Reply) {
+fn event_reply(rt: &impl Print, reply: Reply) {
     match reply {
-        Reply::Acknowledge(acknowledged) => text::bit(acknowledged),
-        Reply::Byte(byte) => text::hex(byte),
-        Reply::Done => text::bit(false),
+        Reply::Acknowledge(acknowledged) => text::bit(rt, acknowledged),
+        Reply::Byte(byte) => text::hex(rt, byte),
+        Reply::Done => text::bit(rt, false),
     }
 }
 
-pub(crate) fn asked(record: [u8; 16], chip: Ds3231) {
+pub(crate) fn asked(rt: &impl Print, record: [u8; 16], chip: Ds3231) {
     match record::kind(record) {
-        5 => register(record, chip),
-        6 => now(record, chip),
-        _ => dropped(chip),
+        5 => register(rt, record, chip),
+        6 => now(rt, record, chip),
+        _ => dropped(rt, chip),
     }
 }
 
-fn register(record: [u8; 16], chip: Ds3231) {
+fn register(rt: &impl Print, record: [u8; 16], chip: Ds3231) {
     let at = record::number8(record);
     match ds3231_chip::register(chip, record::byte(record), at) {
-        RegisterResult::Ok(byte) => text::hex(byte),
-        RegisterResult::NoSuchRegister => text::refused(9),
-        RegisterResult::NotSound => text::not_sound(),
+        RegisterResult::Ok(byte) => text::hex(rt, byte),
+        RegisterResult::NoSuchRegister => text::refused(rt, 9),
+        RegisterResult::NotSound => text::not_sound(rt),
     }
 }
 
-fn now(record: [u8; 16], chip: Ds3231) {
+fn now(rt: &impl Print, record: [u8; 16], chip: Ds3231) {
     match ds3231_chip::now(chip, record::number8(record)) {
-        NowResult::Ok(time) => text::time(time),
-        NowResult::NotSound => text::not_sound(),
+        NowResult::Ok(time) => text::time(rt, time),
+        NowResult::NotSound => text::not_sound(rt),
     }
 }
 
-fn dropped(chip: Ds3231) {
+fn dropped(rt: &impl Print, chip: Ds3231) {
     match ds3231_chip::dropped_diagnostics(chip) {
-        DroppedResult::Ok(count) => text::decimal(count),
-        DroppedResult::NotSound => text::not_sound(),
+        DroppedResult::Ok(count) => text::decimal(rt, count),
+        DroppedResult::NotSound => text::not_sound(rt),
     }
 }

@@ -2,39 +2,39 @@
 use crate::{record, text};
 use calendar::{DateTime, FromSecondsResult, SecondsResult, Validity, WeekdayResult};
 
-pub(crate) fn asked(record: [u8; 16]) {
+pub(crate) fn asked(rt: &impl Print, record: [u8; 16]) {
     match record::kind(record) {
-        9 => validate(record::time(record)),
-        10 => from_seconds(record::number8(record)),
-        11 => seconds(record::time(record)),
-        _ => weekday(record::time(record)),
+        9 => validate(rt, record::time(record)),
+        10 => from_seconds(rt, record::number8(record)),
+        11 => seconds(rt, record::time(record)),
+        _ => weekday(rt, record::time(record)),
     }
 }
 
-fn validate(time: DateTime) {
+fn validate(rt: &impl Print, time: DateTime) {
     match time.validate() {
-        Validity::Valid => text::ok(),
-        Validity::Invalid(error) => text::error(error),
+        Validity::Valid => text::ok(rt),
+        Validity::Invalid(error) => text::error(rt, error),
     }
 }
 
-fn from_seconds(seconds: u64) {
+fn from_seconds(rt: &impl Print, seconds: u64) {
     match DateTime::from_seconds_since_2000(seconds) {
-        FromSecondsResult::Ok(time) => text::time(time),
-        FromSecondsResult::OutOfRange => text::refused(8),
+        FromSecondsResult::Ok(time) => text::time(rt, time),
+        FromSecondsResult::OutOfRange => text::refused(rt, 8),
     }
 }
 
-fn seconds(time: DateTime) {
+fn seconds(rt: &impl Print, time: DateTime) {
     match time.seconds_since_2000() {
-        SecondsResult::Ok(seconds) => text::decimal(seconds),
-        SecondsResult::Err(error) => text::error(error),
+        SecondsResult::Ok(seconds) => text::decimal(rt, seconds),
+        SecondsResult::Err(error) => text::error(rt, error),
     }
 }
 
-fn weekday(time: DateTime) {
+fn weekday(rt: &impl Print, time: DateTime) {
     match time.weekday() {
-        WeekdayResult::Ok(weekday) => text::decimal(weekday as u64),
-        WeekdayResult::Err(error) => text::error(error),
+        WeekdayResult::Ok(weekday) => text::decimal(rt, weekday as u64),
+        WeekdayResult::Err(error) => text::error(rt, error),
     }
 }

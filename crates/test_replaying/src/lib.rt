@@ -28,12 +28,12 @@ struct Run {
 }
 
 // Runs the lists of `input` to its end, and answers where that is.
-pub fn replay(input: &[u8]) -> usize
+pub fn replay(rt: &impl Print, input: &[u8]) -> usize
     ensures { result ≡ length input.now }
 {
     let mut run = first();
     while run.at < input.len() {
-        run = turn(input, run);
+        run = turn(rt, input, run);
     }
     run.at
 }
@@ -51,7 +51,7 @@ fn first() -> Run
 }
 
 // One header or one record of `input`; where neither is whole, the rest of it.
-fn turn(input: &[u8], run: Run) -> Run
+fn turn(rt: &impl Print, input: &[u8], run: Run) -> Run
     requires { run.at < length input.now }
     ensures { (run.at < result.at) × (result.at ≤ length input.now) }
 {
@@ -62,13 +62,13 @@ fn turn(input: &[u8], run: Run) -> Run
             return moved(input.len(), run);
         }
         let records = record::number4(input[at], input[at + 1], input[at + 2], input[at + 3]);
-        return begun(at + HEADER, records, run);
+        return begun(rt, at + HEADER, records, run);
     }
     if rest < RECORD {
         return moved(input.len(), run);
     }
     let record = record_at(input, at);
-    answered(at + RECORD, record, run)
+    answered(rt, at + RECORD, record, run)
 }
 
 // The record at `at`.
@@ -96,10 +96,10 @@ fn moved(next: usize, run: Run) -> Run
 }
 
 // After the header of a list of `records` records.
-fn begun(next: usize, records: u64, run: Run) -> Run
+fn begun(rt: &impl Print, next: usize, records: u64, run: Run) -> Run
     ensures { result.at ≡ next }
 {
-    text::list(run.lists);
+    text::list(rt, run.lists);
     let session = run.session;
     Run {
         at: next,
@@ -110,12 +110,12 @@ fn begun(next: usize, records: u64, run: Run) -> Run
 }
 
 // After a record.
-fn answered(next: usize, record: [u8; 16], run: Run) -> Run
+fn answered(rt: &impl Print, next: usize, record: [u8; 16], run: Run) -> Run
     ensures { result.at ≡ next }
 {
     let before = run.session;
-    let session = answer(record, before);
-    text::line_end();
+    let session = answer(rt, record, before);
+    text::line_end(rt);
     Run {
         at: next,
         left: std::num::wrapping_sub_u64(run.left, 1),
@@ -125,17 +125,17 @@ fn answered(next: usize, record: [u8; 16], run: Run) -> Run
 }
 
 // Answers a record's call, by its kind.
-fn answer(record: [u8; 16], before: Session) -> Session {
+fn answer(rt: &impl Print, record: [u8; 16], before: Session) -> Session {
     match record::kind(record) {
-        0..=3 => chip::event(record, before),
-        4 => chip::on(record),
+        0..=3 => chip::event(rt, record, before),
+        4 => chip::on(rt, record),
         5..=7 => {
-            chip::asked(record, before.chip);
+            chip::asked(rt, record, before.chip);
             before
         }
-        8 => taking::taken(before),
+        8 => taking::taken(rt, before),
         _ => {
-            dates::asked(record);
+            dates::asked(rt, record);
             before
         }
     }

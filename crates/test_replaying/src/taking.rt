@@ -9,13 +9,13 @@ use listing::{LINE, diagnostic_lines};
 const LINES: usize = 1 + LINE * MAX_DIAGNOSTICS;
 
 // Takes into 256 records and prints how many there are, and each on a line.
-pub(crate) fn taken(before: Session) -> Session {
+pub(crate) fn taken(rt: &impl Print, before: Session) -> Session {
     let unwritten = I2cDiagnostic::unwritten();
     let out = [unwritten; 256];
     let chip = before.chip;
     let store = before.store;
     let emptied = take_on(chip, store, out);
-    print(emptied);
+    print(rt, emptied);
     let chip = emptied.chip;
     let answer = before.answer;
     Session {
@@ -25,23 +25,23 @@ pub(crate) fn taken(before: Session) -> Session {
     }
 }
 
-fn print(emptied: Emptied) {
+fn print(rt: &impl Print, emptied: Emptied) {
     let out = emptied.out;
     let answer = emptied.answer;
     match answer {
         TakeAnswer::Taken(count) => {
-            text::decimal(count as u64);
-            print_lines(out, count);
+            text::decimal(rt, count as u64);
+            print_lines(rt, out, count);
         }
-        TakeAnswer::NotSound => text::not_sound(),
-        TakeAnswer::StoreLength => text::refused(11),
-        TakeAnswer::OutTooShort => text::refused(12),
+        TakeAnswer::NotSound => text::not_sound(rt),
+        TakeAnswer::StoreLength => text::refused(rt, 11),
+        TakeAnswer::OutTooShort => text::refused(rt, 12),
     }
 }
 
 // A line end, then the lines of the first `count` records without the end of the last, which ends the answer.
-fn print_lines(out: [I2cDiagnostic; 256], count: usize) {
+fn print_lines(rt: &impl Print, out: [I2cDiagnostic; 256], count: usize) {
     let mut lines = [b'\n'; LINES];
     let end = diagnostic_lines(&mut lines, 1, out, count);
-    io::write_all(1, &lines[..end - 1]);
+    text::bytes(rt, &lines[..end - 1]);
 }

@@ -1,47 +1,51 @@
-// The text of answers.
+// The text of answers. What cannot be written is lost.
 use calendar::{DateTime, DateTimeError};
 
-pub(crate) fn line_end() {
-    io::write_all(1, b"\n");
+pub(crate) fn bytes(rt: &impl Print, text: &[u8]) {
+    let _ = rt.write_all(text);
+}
+
+pub(crate) fn line_end(rt: &impl Print) {
+    bytes(rt, b"\n");
 }
 
 // The line before a list.
-pub(crate) fn list(number: u64) {
-    io::write_all(1, b"list");
-    comma_decimal(number);
-    line_end();
+pub(crate) fn list(rt: &impl Print, number: u64) {
+    bytes(rt, b"list");
+    comma_decimal(rt, number);
+    line_end(rt);
 }
 
-pub(crate) fn ok() {
-    io::write_all(1, b"ok");
+pub(crate) fn ok(rt: &impl Print) {
+    bytes(rt, b"ok");
 }
 
-pub(crate) fn not_sound() {
-    refused(10);
+pub(crate) fn not_sound(rt: &impl Print) {
+    refused(rt, 10);
 }
 
-pub(crate) fn decimal(number: u64) {
-    io::print_decimal(1, number);
+pub(crate) fn decimal(rt: &impl Print, number: u64) {
+    let _ = rt.print(number);
 }
 
-fn comma_decimal(number: u64) {
-    io::write_all(1, b",");
-    decimal(number);
+fn comma_decimal(rt: &impl Print, number: u64) {
+    bytes(rt, b",");
+    decimal(rt, number);
 }
 
 // `01` or `00`.
-pub(crate) fn bit(is_one: bool) {
+pub(crate) fn bit(rt: &impl Print, is_one: bool) {
     if is_one {
-        hex(1);
+        hex(rt, 1);
     } else {
-        hex(0);
+        hex(rt, 0);
     }
 }
 
 // Two hexadecimal digits.
-pub(crate) fn hex(byte: u8) {
+pub(crate) fn hex(rt: &impl Print, byte: u8) {
     let digits = [hex_digit(byte / 16), hex_digit(byte)];
-    io::write_all(1, &digits);
+    bytes(rt, &digits);
 }
 
 // The digit of a number's lowest four bits.
@@ -54,9 +58,9 @@ fn hex_digit(number: u8) -> u8 {
 }
 
 // The last two decimal digits of a number.
-fn two_digits(number: u64) {
+fn two_digits(rt: &impl Print, number: u64) {
     let digits = [decimal_digit(number / 10), decimal_digit(number)];
-    io::write_all(1, &digits);
+    bytes(rt, &digits);
 }
 
 // The last decimal digit of a number.
@@ -65,56 +69,56 @@ fn decimal_digit(number: u64) -> u8 {
 }
 
 // `2026-01-01T00:00:00`.
-pub(crate) fn time(time: DateTime) {
-    two_digits(time.year as u64 / 100);
-    two_digits(time.year as u64);
-    io::write_all(1, b"-");
-    two_digits(time.month as u64);
-    io::write_all(1, b"-");
-    two_digits(time.day as u64);
-    io::write_all(1, b"T");
-    two_digits(time.hour as u64);
-    io::write_all(1, b":");
-    two_digits(time.minute as u64);
-    io::write_all(1, b":");
-    two_digits(time.second as u64);
+pub(crate) fn time(rt: &impl Print, time: DateTime) {
+    two_digits(rt, time.year as u64 / 100);
+    two_digits(rt, time.year as u64);
+    bytes(rt, b"-");
+    two_digits(rt, time.month as u64);
+    bytes(rt, b"-");
+    two_digits(rt, time.day as u64);
+    bytes(rt, b"T");
+    two_digits(rt, time.hour as u64);
+    bytes(rt, b":");
+    two_digits(rt, time.minute as u64);
+    bytes(rt, b":");
+    two_digits(rt, time.second as u64);
 }
 
 // A refusal: `refused,8`.
-pub(crate) fn refused(number: u64) {
-    io::write_all(1, b"refused");
-    comma_decimal(number);
+pub(crate) fn refused(rt: &impl Print, number: u64) {
+    bytes(rt, b"refused");
+    comma_decimal(rt, number);
 }
 
 // A refused time: `refused,3,2100,2,29`.
-pub(crate) fn error(error: DateTimeError) {
+pub(crate) fn error(rt: &impl Print, error: DateTimeError) {
     match error {
-        DateTimeError::Year(year) => refused_value(1, year as u64),
-        DateTimeError::Month(month) => refused_value(2, month as u64),
+        DateTimeError::Year(year) => refused_value(rt, 1, year as u64),
+        DateTimeError::Month(month) => refused_value(rt, 2, month as u64),
         DateTimeError::Day { year, month, day } => {
-            refused_value(3, year as u64);
-            comma_decimal(month as u64);
-            comma_decimal(day as u64);
+            refused_value(rt, 3, year as u64);
+            comma_decimal(rt, month as u64);
+            comma_decimal(rt, day as u64);
         }
-        DateTimeError::Hour(hour) => refused_value(4, hour as u64),
-        DateTimeError::Minute(minute) => refused_value(5, minute as u64),
-        DateTimeError::Second(second) => refused_value(6, second as u64),
+        DateTimeError::Hour(hour) => refused_value(rt, 4, hour as u64),
+        DateTimeError::Minute(minute) => refused_value(rt, 5, minute as u64),
+        DateTimeError::Second(second) => refused_value(rt, 6, second as u64),
     }
 }
 
-fn refused_value(number: u64, value: u64) {
-    refused(number);
-    comma_decimal(value);
+fn refused_value(rt: &impl Print, number: u64, value: u64) {
+    refused(rt, number);
+    comma_decimal(rt, value);
 }
 
 // A refused temperature: `refused,7,-41`.
-pub(crate) fn quarters_refused(quarters: i16) {
-    refused(7);
-    io::write_all(1, b",");
+pub(crate) fn quarters_refused(rt: &impl Print, quarters: i16) {
+    refused(rt, 7);
+    bytes(rt, b",");
     if quarters < 0 {
-        io::write_all(1, b"-");
+        bytes(rt, b"-");
     }
-    decimal(magnitude(quarters) as u64);
+    decimal(rt, magnitude(quarters) as u64);
 }
 
 // A number without its sign. The remainder changes nothing: it shows that the sum fits.

@@ -4,27 +4,26 @@
 
 ghost use Rattle.std.specs.Prelude.{◌≡◌, ◌<◌, ◌≤◌, length};
 
-use libc::STDOUT_FILENO;
 use script_listing::{LISTING, listing, within};
 
 // The bytes of a script's length.
 const HEADER: usize = 4;
 
 // Runs the scripts of `input` to its end, and answers where that is.
-pub fn replay(input: &[u8]) -> usize
+pub fn replay(rt: &impl Print, input: &[u8]) -> usize
     ensures { result ≡ length input.now }
 {
     let mut at = 0;
     let mut number = 0;
     while at < input.len() {
-        at = turn(input, at, number);
+        at = turn(rt, input, at, number);
         number = std::num::wrapping_add_u64(number, 1);
     }
     at
 }
 
 // One script of `input`; where it is not whole, the rest of it.
-fn turn(input: &[u8], at: usize, number: u64) -> usize
+fn turn(rt: &impl Print, input: &[u8], at: usize, number: u64) -> usize
     requires { at < length input.now }
     ensures { (at < result) × (result ≤ length input.now) }
 {
@@ -37,8 +36,8 @@ fn turn(input: &[u8], at: usize, number: u64) -> usize
     if input.len() - from < length {
         return input.len();
     }
-    title(number);
-    print(&input[from..from + length]);
+    title(rt, number);
+    print(rt, &input[from..from + length]);
     from + length
 }
 
@@ -47,17 +46,15 @@ fn number4(a: u8, b: u8, c: u8, d: u8) -> usize {
     a as usize + 256 * (b as usize + 256 * (c as usize + 256 * d as usize))
 }
 
-// `script,0`.
-fn title(number: u64) {
-    io::write_all(STDOUT_FILENO, b"script,");
-    io::print_decimal(STDOUT_FILENO, number);
-    io::write_all(STDOUT_FILENO, b"\n");
+// `script,0`. What cannot be written is lost.
+fn title(rt: &impl Print, number: u64) {
+    let _ = println!(rt; "script,{number}");
 }
 
-// Prints the listing of a script.
-fn print(script: &[u8]) {
-    let mut out = [0u8; LISTING];
-    let n = listing(script, &mut out);
-    let n = within(n, &out);
-    io::write_all(STDOUT_FILENO, &out[..n]);
+// Prints the listing of a script. What cannot be written is lost.
+fn print(rt: &impl Print, script: &[u8]) {
+    let mut text = [0u8; LISTING];
+    let n = listing(script, &mut text);
+    let n = within(n, &text);
+    let _ = rt.write_all(&text[..n]);
 }

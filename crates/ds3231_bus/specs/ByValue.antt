@@ -1,4 +1,4 @@
--- Need not be believed: what the functions by value promise below the calls on a lent chip and store. `shown` and `read_shown` of proofs/BusRows.antt and `took` of proofs/TakingRows.antt turn it into what those calls promise, `Called` and `Took`. Assumes nothing.
+-- Need not be believed: what the functions by value promise below the calls on a lent chip and store. The contracts of those calls, `Called` and `Took`, follow from it. Assumes nothing.
 use Rattle.computed.specs.Prelude.{ℕ, ◌≤◌, Bool, List, ◌++◌, ◌≡◌, length, take, drop}
 use Rattle.diagnostics.specs.Reports.{stored_all}
 use Rattle.diagnostics.specs.declared.Diagnostics.{Diagnostics}

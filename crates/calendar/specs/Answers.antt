@@ -1,5 +1,6 @@
 -- 'Where to use each form': the number and the values of each public call's answer, by the cases of its enum. Assumes nothing.
-use Rattle.computed.specs.Prelude.{ℕ, [], ◌∷◌, pos}
+use Rattle.computed.specs.Prelude.{ℕ, [], pos}
+use Rattle.std.specs.Prelude.{◌∷◌}
 use Rattle.refusals.specs.Numbered.{Numbered, accepted, refused}
 use Rattle.calendar.specs.declared.DateTime.{DateTime}
 use Rattle.calendar.specs.declared.DateTimeError.{DateTimeError}

@@ -1,5 +1,6 @@
 -- Need not be believed: `equations` (specs/Dates.antt) equates each definition with one of gregorian/specs/Times.antt at a `DateTime`, `nearest` with that of gregorian/specs/Nearest.antt, and `in_range_accepted` and `accepted_in_range` (proofs/Laws.antt) `InRange` with `checked`. No crate above can open the other five. Assumes nothing.
-use Rattle.computed.specs.Prelude.{ℕ, ◌≡◌, refl}
+use Rattle.computed.specs.Prelude.{ℕ, refl}
+use Rattle.std.specs.Prelude.{◌≡◌}
 use Rattle.refusals.specs.Numbered.{Numbered}
 use Rattle.gregorian.specs.Times.{checked_time, seconds_to, time_after, weekday_on}
 use Rattle.gregorian.specs.Nearest.{nearest_time}

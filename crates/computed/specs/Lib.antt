@@ -1,3 +1,2 @@
-pub mod Choice
 pub mod Entries
 pub mod Prelude

@@ -7,7 +7,7 @@ use mathlib.Core.Path.{◌≡◌, refl, sym, ◌∙◌, ap, subst}
 use lib.Dec.{T, ltb, nltb→le}
 use lib.ListN.{length, set, length-set}
 use lib.Seq.{set_out}
-use Rattle.computed.specs.Choice.{if◌then◌else◌}
+use Rattle.std.specs.Prelude.{if◌then◌else◌}
 use Rattle.diagnostics.specs.Reports.{counted, stored, stored_all}
 use Rattle.diagnostics.specs.ByValue.{posted}
 use Rattle.diagnostics.specs.declared.Diagnostics.{Diagnostics}

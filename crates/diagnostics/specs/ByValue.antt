@@ -1,5 +1,6 @@
 -- Need not be believed: what the functions below the calls that are lent a store promise. The contract of `report` follows from it, and those of the calls on a lent chip. Assumes nothing.
-use Rattle.computed.specs.Prelude.{ℕ, false, List, ◌≡◌, length, set, if◌then◌else◌}
+use Rattle.computed.specs.Prelude.{ℕ, false, List, length, set}
+use Rattle.std.specs.Prelude.{◌≡◌, if◌then◌else◌}
 use Rattle.diagnostics.specs.Lent.{ReportedTo}
 use Rattle.diagnostics.specs.Reports.{I2cDiagnostic, Diagnostics, unwritten}
 use Rattle.diagnostics.specs.declared.Posting.{Posting}

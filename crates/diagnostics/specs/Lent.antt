@@ -1,5 +1,6 @@
 -- A report into a lent store, in document 01's numbers: what `report` promises. Assumes nothing.
-use Rattle.computed.specs.Prelude.{not, List, [], ◌≡◌, ltb, eqb, length, if◌then◌else◌}
+use Rattle.computed.specs.Prelude.{not, List, [], ltb, eqb, length}
+use Rattle.std.specs.Prelude.{◌≡◌, if◌then◌else◌}
 use Rattle.refusals.specs.Numbered.{Numbered, accepted, refused, unless}
 use Rattle.diagnostics.specs.Reports.{counted, stored, I2cDiagnostic, Diagnostics}
 use Rattle.diagnostics.specs.declared.ReportAnswer.{ReportAnswer}

@@ -1,5 +1,6 @@
 -- What a diagnostic says in document 01's words, and what reports do to the store and to the counts. Assumes nothing.
-use Rattle.computed.specs.Prelude.{ℕ, ◌+◌, min, List, [], ◌∷◌, ltb, set, if◌then◌else◌}
+use Rattle.computed.specs.Prelude.{ℕ, min, List, [], ltb, set}
+use Rattle.std.specs.Prelude.{◌+◌, ◌∷◌, if◌then◌else◌}
 use Rattle.diagnostics.specs.declared.ChipName.TheVariants.{Ds3231}
 pub use Rattle.diagnostics.specs.declared.I2cDiagnosticKind.{I2cDiagnosticKind}
 pub use Rattle.diagnostics.specs.declared.I2cDiagnosticKind.TheVariants.{NotModelled, ReadOnly, NoSuchRegister, Undefined}

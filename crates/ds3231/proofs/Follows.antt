@@ -8,7 +8,7 @@ use native.Mathlib.Nat.{le_refl, le_trans}
 use native.Mathlib.Omega.{arith}
 use borrow.Author.Tests.{ltb-true, ltb-false}
 use lib.Dec.{leb, ltb, eqb, lit<}
-use Rattle.computed.specs.Choice.{if◌then◌else◌}
+use Rattle.std.specs.Prelude.{if◌then◌else◌}
 use Rattle.computed.proofs.Claim.{Claim, eq, each}
 use Rattle.calendar.specs.Stated.{with_day, time_of, seconds_of, nearest, month_length, day_number}
 use Rattle.calendar.proofs.Laws.{nearest_same, nearest_past}

@@ -8,7 +8,7 @@ use mathlib.Core.Path.{◌≡◌, refl, sym, ap, subst, ◌∙◌}
 use native.Mathlib.Omega.{arith}
 use borrow.Author.Tests.{eqb-true, leb-true, leb-false, lt-ltb, le-ltb}
 use lib.Dec.{T, leb, ltb, eqb}
-use Rattle.computed.specs.Choice.{if◌then◌else◌}
+use Rattle.std.specs.Prelude.{if◌then◌else◌}
 use Rattle.computed.specs.Entries.{At}
 use Rattle.computed.proofs.Choice.{le_or_lt}
 use Rattle.computed.proofs.Claim.{Claim, eq, le, holds, Means, first, rest, means, each}

@@ -12,7 +12,7 @@ use lib.IntN.{ℤ, pos, negsuc}
 use lib.ListN.{length, get_or, replicate}
 use lib.Signed.{shr_z}
 use Rattle.refusals.specs.Numbered.{Numbered, accepted, refused, and_then}
-use Rattle.computed.specs.Choice.{if◌then◌else◌}
+use Rattle.std.specs.Prelude.{if◌then◌else◌}
 use Rattle.computed.specs.Entries.{entry}
 use Rattle.computed.proofs.Choice.{chosen}
 use Rattle.computed.proofs.Claim.{le, each}

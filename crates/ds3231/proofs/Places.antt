@@ -6,7 +6,7 @@ use mathlib.Core.List.{List, [], ◌∷◌}
 use mathlib.Core.Path.{◌≡◌, refl, sym, ap, ◌∙◌, subst}
 use borrow.Author.Tests.{le-leb, lt-leb}
 use lib.Dec.{leb, eqb}
-use Rattle.computed.specs.Choice.{if◌then◌else◌}
+use Rattle.std.specs.Prelude.{if◌then◌else◌}
 use Rattle.ds3231.specs.Map.{number_of, Names, named}
 use Rattle.ds3231.specs.Timing.{latch, pointed, pointed_by, phase_for}
 use Rattle.ds3231.specs.Changed.{next_pointer}

@@ -8,7 +8,7 @@ use native.Mathlib.Omega.{arith}
 use lib.Dec.{leb, eqb}
 use lib.Bits.{bit_and}
 use Rattle.refusals.specs.Numbered.{Numbered, accepted, refused, unless}
-use Rattle.computed.specs.Choice.{if◌then◌else◌}
+use Rattle.std.specs.Prelude.{if◌then◌else◌}
 use Rattle.computed.proofs.Choice.{chosen}
 use Rattle.calendar.specs.Stated.{InRange}
 use Rattle.calendar.proofs.Laws.{time_in_range, seconds_below, nearest_in_range}

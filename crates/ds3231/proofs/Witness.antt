@@ -9,7 +9,7 @@ use borrow.Author.Tests.{le-leb, le-ltb}
 use lib.Dec.{leb, lit<}
 use lib.ListN.{replicate}
 use Rattle.refusals.specs.Numbered.{accepted, refused}
-use Rattle.computed.specs.Choice.{if◌then◌else◌}
+use Rattle.std.specs.Prelude.{if◌then◌else◌}
 use Rattle.computed.specs.Entries.{entry}
 use Rattle.computed.proofs.Entries.{entry_is}
 use Rattle.calendar.specs.Stated.{InRange, date_time, with_day, seconds_of, time_of, month_length, day_number}

@@ -1,5 +1,6 @@
 -- The calls on one chip: what each answers and leaves, in document 01's numbers. Assumes nothing.
-use Rattle.computed.specs.Prelude.{ℕ, Bool, true, false, not, ◌&&◌, ◌||◌, List, [], ◌∷◌, ◌++◌, leb, ltb, eqb, bit_and, length, take, drop, replicate, ℤ, pos, negsuc, le_z, if◌then◌else◌}
+use Rattle.computed.specs.Prelude.{ℕ, Bool, true, false, not, List, [], leb, ltb, eqb, bit_and, length, take, drop, replicate, ℤ, pos, negsuc, le_z}
+use Rattle.std.specs.Prelude.{◌&&◌, ◌||◌, ◌∷◌, ◌++◌, if◌then◌else◌}
 use Rattle.refusals.specs.Numbered.{Numbered, accepted, refused, is_accepted, and_then, unless}
 use Rattle.calendar.specs.Stated.{date_time, checked, with_day, weekday_of, month_length}
 use Rattle.calendar.specs.declared.DateTime.{DateTime}

@@ -1,5 +1,6 @@
 -- Need not be believed: the chip's own side of what the model says too. `date_same`, `weekday_same`, `mode_same` and, for the weekdays 1 to 7, `offset_same` of proofs/Follows.antt and `next_moved` of proofs/Map.antt equate each with the model's. Assumes nothing.
-use Rattle.computed.specs.Prelude.{ℕ, ◌+◌, ◌-◌, ◌%◌, Bool, leb, eqb, if◌then◌else◌}
+use Rattle.computed.specs.Prelude.{ℕ, Bool, leb, eqb}
+use Rattle.std.specs.Prelude.{◌+◌, ◌-◌, ◌%◌, if◌then◌else◌}
 use Rattle.calendar.specs.declared.DateTime.{DateTime}
 use Rattle.fields.specs.Table.{Meaning, undefined, sets}
 use Rattle.ds3231.specs.Types.{Register, Seconds, Minutes, Hours, Weekday, Date, Month, Year, Alarm1Seconds, Alarm1Minutes, Alarm1Hours, Alarm1Day, Alarm2Minutes, Alarm2Hours, Alarm2Day, Control, Status, Aging, TemperatureMsb, TemperatureLsb}

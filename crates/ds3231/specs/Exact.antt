@@ -1,5 +1,6 @@
 -- The exact time, 'Shown time and exact time' of document 01: no bus events whose instants never fall can, from power-on, put the shown time a whole second from the exact count of nanoseconds. One claim about any list of calls, refused ones included. Assumes nothing.
-use Rattle.computed.specs.Prelude.{ℕ, ◌+◌, ◌*◌, ◌≤◌, ◌<◌, Bool, true, false, List, [], ◌∷◌, ◌++◌, ◌≡◌, eqb, length, At, if◌then◌else◌}
+use Rattle.computed.specs.Prelude.{ℕ, Bool, true, false, List, [], eqb, length, At}
+use Rattle.std.specs.Prelude.{◌+◌, ◌*◌, ◌≤◌, ◌<◌, ◌∷◌, ◌++◌, ◌≡◌, if◌then◌else◌}
 use Rattle.refusals.specs.Numbered.{Numbered, accepted, refused}
 use Rattle.calendar.specs.Stated.{InRange, seconds_of}
 use Rattle.calendar.specs.declared.DateTime.{DateTime}

@@ -1,5 +1,6 @@
 -- The register map: the number of each register, and what a number names. Assumes nothing.
-use Rattle.computed.specs.Prelude.{ℕ, ◌<◌, List, [], ◌∷◌, ◌≡◌, eqb, if◌then◌else◌}
+use Rattle.computed.specs.Prelude.{ℕ, List, [], eqb}
+use Rattle.std.specs.Prelude.{◌<◌, ◌∷◌, ◌≡◌, if◌then◌else◌}
 use Rattle.ds3231.specs.Types.{Register, Seconds, Minutes, Hours, Weekday, Date, Month, Year, Alarm1Seconds, Alarm1Minutes, Alarm1Hours, Alarm1Day, Alarm2Minutes, Alarm2Hours, Alarm2Day, Control, Status, Aging, TemperatureMsb, TemperatureLsb, Named, One, None}
 
 -- 'Register bytes': 0x00 to 0x06 are seconds, minutes, hours, weekday, date, month, year; 0x07 to 0x0D hold alarm bytes; 0x0E control, 0x0F status, 0x10 aging, 0x11 and 0x12 temperature. No register's number is above 0x12 (`number_below` of proofs/Map.antt)

@@ -1,5 +1,6 @@
 -- Document 01's model of the exact time, 'Shown time and exact time'. It is fed the kind, instant, address, read bit and byte of each bus call that is not refused, and no answers. It shares with the chip's side `meaning`, `time_bytes`, the calendar, the numbers of `Numbers`, the events and the configuration, and nothing else. Assumes nothing.
-use Rattle.computed.specs.Prelude.{ℕ, ◌+◌, ◌*◌, ◌-◌, ◌/◌, ◌%◌, ◌≤◌, Bool, true, false, ◌&&◌, List, [], ◌∷◌, ◌++◌, ◌≡◌, leb, ltb, eqb, if◌then◌else◌}
+use Rattle.computed.specs.Prelude.{ℕ, Bool, true, false, List, [], leb, ltb, eqb}
+use Rattle.std.specs.Prelude.{◌+◌, ◌*◌, ◌-◌, ◌/◌, ◌%◌, ◌≤◌, ◌&&◌, ◌∷◌, ◌++◌, ◌≡◌, if◌then◌else◌}
 use Rattle.calendar.specs.Stated.{seconds_of, time_of, month_length, day_number, with_day}
 use Rattle.calendar.specs.declared.DateTime.{DateTime}
 use Rattle.fields.specs.Table.{Meaning, undefined, sets, meaning, time_bytes}

@@ -1,5 +1,6 @@
 -- The byte of a register, and the registers outside the time, 0x07 to 0x12: their bytes, and what a write does to them. Assumes nothing.
-use Rattle.computed.specs.Prelude.{ℕ, ◌+◌, ◌*◌, ◌-◌, ◌%◌, min, Bool, not, ◌&&◌, ◌||◌, List, leb, ltb, eqb, bit_and, bit_or, entry, set, ℤ, pos, negsuc, shr_z, if◌then◌else◌}
+use Rattle.computed.specs.Prelude.{ℕ, min, Bool, not, List, leb, ltb, eqb, bit_and, bit_or, entry, set, ℤ, pos, negsuc, shr_z}
+use Rattle.std.specs.Prelude.{◌+◌, ◌*◌, ◌-◌, ◌%◌, ◌&&◌, ◌||◌, if◌then◌else◌}
 use Rattle.ds3231.specs.Types.{Registers, Register, Seconds, Minutes, Hours, Weekday, Date, Month, Year, Alarm1Seconds, Alarm1Minutes, Alarm1Hours, Alarm1Day, Alarm2Minutes, Alarm2Hours, Alarm2Day, Control, Status, Aging, TemperatureMsb, TemperatureLsb}
 
 -- 'Register bytes': a conversion runs while the instant is below its end

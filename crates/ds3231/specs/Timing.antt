@@ -1,5 +1,6 @@
 -- What the bus does to the part of the chip that keeps the time: accepted bytes, commit, latch, pointer and phase. Assumes nothing.
-use Rattle.computed.specs.Prelude.{ℕ, Bool, true, false, ◌||◌, List, eqb, if◌then◌else◌}
+use Rattle.computed.specs.Prelude.{ℕ, Bool, true, false, List, eqb}
+use Rattle.std.specs.Prelude.{◌||◌, if◌then◌else◌}
 use Rattle.calendar.specs.Stated.{nearest}
 use Rattle.fields.specs.Table.{Meaning, undefined, sets, time_bytes}
 use Rattle.ds3231.specs.Changed.{changed_time, changed_weekday, changed_mode}

@@ -1,5 +1,6 @@
 -- The report total of document 01. Assumes nothing.
-use Rattle.computed.specs.Prelude.{ℕ, ◌+◌, ◌^◌, ◌<◌, List, [], ◌∷◌, ◌≡◌, length}
+use Rattle.computed.specs.Prelude.{ℕ, List, [], length}
+use Rattle.std.specs.Prelude.{◌+◌, ◌^◌, ◌<◌, ◌∷◌, ◌≡◌}
 use Rattle.refusals.specs.Numbered.{Numbered, accepted, refused}
 use Rattle.ds3231.specs.Calls.{step, Answered, replied, copied, Call, bus, taking, power_on, verdict, chip_after, answer}
 use Rattle.ds3231.specs.Types.{Ds3231, Ds3231Config}

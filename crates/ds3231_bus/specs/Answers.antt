@@ -1,5 +1,6 @@
 -- What the calls on a lent chip and store promise: answer, chip, store and output of each call, in the numbers of 'The table of refusals'. Assumes nothing.
-use Rattle.computed.specs.Prelude.{List, [], ◌≡◌}
+use Rattle.computed.specs.Prelude.{List, []}
+use Rattle.std.specs.Prelude.{◌≡◌}
 use Rattle.refusals.specs.Numbered.{Numbered, accepted, refused}
 use Rattle.diagnostics.specs.declared.I2cDiagnostic.{I2cDiagnostic}
 use Rattle.ds3231.specs.Calls.{Answered, replied, copied, bus, taking, chip_after, store_after, out_after, answer}

@@ -1,5 +1,6 @@
 -- Need not be believed: what the functions by value promise below the calls on a lent chip and store. The contracts of those calls, `Called` and `Took`, follow from it. Assumes nothing.
-use Rattle.computed.specs.Prelude.{ℕ, ◌≤◌, Bool, List, ◌++◌, ◌≡◌, length, take, drop}
+use Rattle.computed.specs.Prelude.{ℕ, Bool, List, length, take, drop}
+use Rattle.std.specs.Prelude.{◌≤◌, ◌++◌, ◌≡◌}
 use Rattle.diagnostics.specs.Reports.{stored_all}
 use Rattle.diagnostics.specs.declared.Diagnostics.{Diagnostics}
 use Rattle.diagnostics.specs.declared.I2cDiagnostic.{I2cDiagnostic}

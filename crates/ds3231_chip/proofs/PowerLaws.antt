@@ -4,7 +4,7 @@ use mathlib.Core.Bool.{Bool, true, false}
 use mathlib.Core.List.{[], ◌∷◌}
 use mathlib.Core.Path.{◌≡◌, refl, sym, ap, ap₂, ◌∙◌}
 use Rattle.refusals.specs.Numbered.{Numbered, accepted, refused, and_then}
-use Rattle.computed.specs.Choice.{if◌then◌else◌}
+use Rattle.std.specs.Prelude.{if◌then◌else◌}
 use Rattle.calendar.specs.Stated.{checked}
 use Rattle.calendar.specs.Answers.{refused_by}
 use Rattle.calendar.specs.declared.DateTimeError.{DateTimeError}

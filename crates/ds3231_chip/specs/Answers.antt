@@ -1,5 +1,6 @@
 -- What power-on and the calls that ask answer, in the numbers of 'The table of refusals', each by the cases of its enum, and what power-on promises. Assumes nothing.
-use Rattle.computed.specs.Prelude.{ℕ, false, [], ◌∷◌, ◌≡◌, pos, replicate}
+use Rattle.computed.specs.Prelude.{ℕ, false, [], pos, replicate}
+use Rattle.std.specs.Prelude.{◌∷◌, ◌≡◌}
 use Rattle.refusals.specs.Numbered.{Numbered, accepted, refused}
 use Rattle.calendar.specs.Answers.{refused_by}
 use Rattle.calendar.specs.Stated.{date_time}

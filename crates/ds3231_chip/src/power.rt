@@ -1,6 +1,6 @@
 // Power-on.
 ghost use Rattle.std.specs.Prelude.{◌≡◌};
-ghost use Rattle.computed.specs.Choice.{if◌then◌else◌};
+ghost use Rattle.std.specs.Prelude.{if◌then◌else◌};
 ghost use Rattle.calendar.specs.Stated.{InRange, weekday_of};
 ghost use Rattle.ds3231.specs.Calls.{timing_on, registers_on, chip_on};
 ghost use Rattle.ds3231_chip.specs.Answers.{no_chip, PoweredOn};

@@ -1,6 +1,6 @@
 // The byte of a register, and what a byte written makes of the registers outside the time, 0x07 to 0x12.
 ghost use Rattle.std.specs.Prelude.{◌≡◌, ◌+◌, min};
-ghost use Rattle.computed.specs.Choice.{if◌then◌else◌};
+ghost use Rattle.std.specs.Prelude.{if◌then◌else◌};
 ghost use Rattle.ds3231.specs.Registers.{converting, low_byte, temperature_high, temperature_low, enables_output, starts_conversion, byte_at, control_written, registers_written};
 
 use ds3231::{Register, Registers};

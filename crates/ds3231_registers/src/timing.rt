@@ -1,7 +1,7 @@
 // What the bus does to the part of the chip that keeps the time: the bytes that it shows, a byte at a time register, and the
 // clock that the end of a transaction sets.
 ghost use Rattle.std.specs.Prelude.{◌≡◌, ◌+◌, ◌≤◌};
-ghost use Rattle.computed.specs.Choice.{if◌then◌else◌};
+ghost use Rattle.std.specs.Prelude.{if◌then◌else◌};
 ghost use Rattle.fields.specs.Table.{time_bytes};
 ghost use Rattle.fields.specs.Answers.{field_meaning, decoded_meaning};
 ghost use Rattle.ds3231.specs.Clock.{time_at, weekday_at, second_start};

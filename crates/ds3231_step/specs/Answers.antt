@@ -1,5 +1,6 @@
 -- Need not be believed: what an event by value promises. It is an equation with `step` of ds3231/specs/Calls.antt, part by part; `called` in ds3231_bus and the run in script make of it what the calls promise (`keeps` of ds3231_bus/proofs/OutcomeLaws.antt, `turn` of script/proofs/Turns.antt). Assumes nothing.
-use Rattle.computed.specs.Prelude.{List, [], ◌∷◌, ◌≡◌}
+use Rattle.computed.specs.Prelude.{List, []}
+use Rattle.std.specs.Prelude.{◌∷◌, ◌≡◌}
 use Rattle.diagnostics.specs.declared.I2cDiagnostic.{I2cDiagnostic}
 use Rattle.ds3231.specs.Calls.{Step, step_chip}
 use Rattle.ds3231.specs.declared.Ds3231.{Ds3231}

@@ -1,6 +1,6 @@
 // What a byte written and a commit report, and the counts after a report.
 ghost use Rattle.std.specs.Prelude.{not, ◌&&◌, [], ◌∷◌, ◌≡◌};
-ghost use Rattle.computed.specs.Choice.{if◌then◌else◌};
+ghost use Rattle.std.specs.Prelude.{if◌then◌else◌};
 ghost use Rattle.diagnostics.specs.Reports.{report, counted_all};
 ghost use Rattle.diagnostics.specs.declared.I2cDiagnosticKind.TheVariants.{NotModelled, Undefined};
 ghost use Rattle.fields.specs.Table.{meaning};

@@ -10,7 +10,7 @@ use native.Mathlib.Omega.{arith}
 use lib.Dec.{T, eqb, leb}
 use lib.ListN.{length, get_or}
 use borrow.Author.Tests.{eqb-true, ne_eqb, le-leb, leb-true}
-use Rattle.computed.specs.Choice.{if◌then◌else◌}
+use Rattle.std.specs.Prelude.{if◌then◌else◌}
 use Rattle.computed.proofs.Claim.{Claim, eq, le, and, Means, below, each}
 use Rattle.computed.proofs.Choice.{chosen, both, le_or_lt}
 use Rattle.calendar.specs.declared.DateTime.{DateTime}

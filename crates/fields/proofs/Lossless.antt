@@ -4,7 +4,7 @@ use Prim.Native.Nat.{ℕ}
 use mathlib.Core.Bool.{Bool}
 use mathlib.Core.Path.{◌≡◌, refl}
 use lib.Dec.{eqb}
-use Rattle.computed.specs.Choice.{if◌then◌else◌}
+use Rattle.std.specs.Prelude.{if◌then◌else◌}
 use Rattle.computed.proofs.Lossless.{lossless}
 use Rattle.fields.specs.Table.{Meaning, undefined, sets}
 use Rattle.fields.specs.Answers.{decoded_meaning}

@@ -1,5 +1,6 @@
 -- Need not be believed: `byte_of_field` and `field_of_byte` (proofs/Laws.antt) make `field_byte` the inverse of `meaning`, and `number_of_digits` and `digits_of_number` make `to_digits` that of `from_digits`. Assumes nothing.
-use Rattle.computed.specs.Prelude.{ℕ, ◌+◌, ◌*◌, ◌/◌, ◌%◌, Bool, leb, eqb, bit_or, if◌then◌else◌}
+use Rattle.computed.specs.Prelude.{ℕ, Bool, leb, eqb, bit_or}
+use Rattle.std.specs.Prelude.{◌+◌, ◌*◌, ◌/◌, ◌%◌, if◌then◌else◌}
 
 -- the two digits of a number; of one above 159, those that eight bits keep
 unfoldable pub to_digits : ℕ → ℕ

@@ -1,5 +1,6 @@
 -- The datasheet's table of the time registers, as document 01 gives it: which byte of a register is defined and which field it sets, and the seven bytes of a time. Assumes nothing.
-use Rattle.computed.specs.Prelude.{ℕ, ◌+◌, ◌*◌, ◌/◌, ◌%◌, ◌^◌, Bool, true, false, not, ◌&&◌, List, [], ◌∷◌, leb, eqb, if◌then◌else◌}
+use Rattle.computed.specs.Prelude.{ℕ, Bool, true, false, not, List, [], leb, eqb}
+use Rattle.std.specs.Prelude.{◌+◌, ◌*◌, ◌/◌, ◌%◌, ◌^◌, ◌&&◌, ◌∷◌, if◌then◌else◌}
 use Rattle.calendar.specs.declared.DateTime.{DateTime}
 use Rattle.fields.specs.Bytes.{field_byte}
 

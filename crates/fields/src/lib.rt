@@ -4,7 +4,7 @@
 #![tactic(auto)]
 
 ghost use Rattle.std.specs.Prelude.{◌≡◌, ◌%◌, leb, eqb};
-ghost use Rattle.computed.specs.Choice.{if◌then◌else◌};
+ghost use Rattle.std.specs.Prelude.{if◌then◌else◌};
 ghost use Rattle.fields.specs.Bytes.{to_digits, hour_byte};
 ghost use Rattle.fields.specs.Table.{bit, meaning, time_bytes};
 ghost use Rattle.fields.specs.Answers.{decoded_meaning, of_digits, of_digits_within};

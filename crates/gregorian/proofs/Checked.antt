@@ -9,7 +9,7 @@ use lib.Dec.{leb}
 use lib.IntN.{ℤ, pos}
 use borrow.Author.Tests.{le-leb, lt-leb, leb-true, not-false}
 use Rattle.refusals.specs.Numbered.{Numbered, accepted, refused}
-use Rattle.computed.specs.Choice.{if◌then◌else◌}
+use Rattle.std.specs.Prelude.{if◌then◌else◌}
 use Rattle.computed.proofs.Choice.{chosen, both, both_false}
 use Rattle.gregorian.specs.Calendar.{month_length}
 use Rattle.gregorian.specs.Times.{Time, within, checked_time}

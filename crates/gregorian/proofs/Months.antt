@@ -6,7 +6,7 @@ use mathlib.Core.Path.{◌≡◌, refl}
 use Prim.Native.Nat.{ℕ, ◌+◌, ◌-◌, ◌≤◌, ◌<◌}
 use native.Mathlib.Omega.{arith}
 use lib.ListN.{get_or, take, length, get_or-eq_default}
-use Rattle.computed.specs.Choice.{if◌then◌else◌}
+use Rattle.std.specs.Prelude.{if◌then◌else◌}
 use Rattle.computed.proofs.Claim.{Claim, eq, le, and, Means, each}
 use Rattle.computed.proofs.Choice.{le_or_lt}
 use Rattle.gregorian.specs.Calendar.{leap, months, month_length}

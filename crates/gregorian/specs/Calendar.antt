@@ -1,5 +1,6 @@
 -- The Gregorian calendar from 2000-01-01 on: the leap rule, the lengths of the months, and the days counted one by one. A date is the struct `Date` of the source. Assumes nothing.
-use Rattle.computed.specs.Prelude.{ℕ, zero, suc, ◌+◌, ◌-◌, ◌%◌, Bool, not, ◌&&◌, ◌||◌, List, [], ◌∷◌, ltb, eqb, get_or, if◌then◌else◌}
+use Rattle.computed.specs.Prelude.{ℕ, zero, suc, Bool, not, List, [], ltb, eqb, get_or}
+use Rattle.std.specs.Prelude.{◌+◌, ◌-◌, ◌%◌, ◌&&◌, ◌||◌, ◌∷◌, if◌then◌else◌}
 use Rattle.gregorian.specs.declared.Date.{Date}
 
 -- k divides n

@@ -1,5 +1,6 @@
 -- Need not be believed: `date_of_day_number` and `number_date_of_day` (proofs/Days.antt): `day_number` of a date is the n for which `date_of_day n` is that date. Assumes nothing.
-use Rattle.computed.specs.Prelude.{ℕ, zero, suc, ◌+◌, ◌-◌, List, [], ◌∷◌, take}
+use Rattle.computed.specs.Prelude.{ℕ, zero, suc, List, [], take}
+use Rattle.std.specs.Prelude.{◌+◌, ◌-◌, ◌∷◌}
 use Rattle.gregorian.specs.Calendar.{leap, months}
 
 -- the sum of a list

@@ -1,5 +1,6 @@
 -- Need not be believed: on every pending time of a sound chip `clamp_same` (ds3231/proofs/Follows.antt) equates `nearest_time` with `clamped` of ds3231/specs/Model.antt, and a chip that is not sound is refused; on a valid time `nearest_same` (proofs/Nearest.antt) says that it is that time. Assumes nothing.
-use Rattle.computed.specs.Prelude.{ℕ, ltb, if◌then◌else◌}
+use Rattle.computed.specs.Prelude.{ℕ, ltb}
+use Rattle.std.specs.Prelude.{if◌then◌else◌}
 use Rattle.gregorian.specs.Calendar.{month_length}
 use Rattle.gregorian.specs.Times.{Time}
 

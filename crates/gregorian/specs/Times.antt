@@ -1,5 +1,6 @@
 -- A date with a time of day, from 2000-01-01T00:00:00 to 2199-12-31T23:59:59: which are valid, and their seconds since 2000. Assumes nothing.
-use Rattle.computed.specs.Prelude.{ℕ, ◌+◌, ◌*◌, ◌/◌, ◌%◌, Bool, not, ◌&&◌, [], ◌∷◌, ltb, leb, pos, if◌then◌else◌}
+use Rattle.computed.specs.Prelude.{ℕ, Bool, not, [], ltb, leb, pos}
+use Rattle.std.specs.Prelude.{◌+◌, ◌*◌, ◌/◌, ◌%◌, ◌&&◌, ◌∷◌, if◌then◌else◌}
 use Rattle.refusals.specs.Numbered.{Numbered, accepted, refused}
 use Rattle.gregorian.specs.Calendar.{month_length, date_of_day, weekday_of_day}
 use Rattle.gregorian.specs.DayNumbers.{day_number}

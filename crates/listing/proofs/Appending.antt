@@ -13,7 +13,7 @@ use lib.ListN.{length, take, drop, set, length-append}
 use borrow.Author.Tests.{le-leb, lt-leb, leb-true, not-true, not-false}
 use lib.Seq.{set_split, append_snoc, take_at, drop-append-add, drop-drop, length-take-le, paste-zero}
 use Rattle.diagnostics.specs.Reports.{Line}
-use Rattle.computed.specs.Choice.{if◌then◌else◌}
+use Rattle.std.specs.Prelude.{if◌then◌else◌}
 use Rattle.computed.proofs.Choice.{le_or_lt}
 use Rattle.listing.specs.Text.{comma, column_text}
 use Rattle.listing.specs.Appended.{appended, Appended, AppendedIn, columns_text}

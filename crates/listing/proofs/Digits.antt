@@ -10,7 +10,7 @@ use lib.Dec.{ltb}
 use lib.ListN.{length, take, drop, set, replicate, length-append, length-set, length-drop}
 use lib.Seq.{append_snoc, take_all}
 use borrow.Author.Tests.{lt-ltb, le-ltb}
-use Rattle.computed.specs.Choice.{if◌then◌else◌}
+use Rattle.std.specs.Prelude.{if◌then◌else◌}
 use Rattle.listing.specs.Text.{digits_in, decimal_of}
 
 -- a number below ten has one digit

@@ -10,7 +10,7 @@ use native.Mathlib.Omega.{arith}
 use lib.Dec.{eqb}
 use lib.ListN.{length, take, length-append, length-take}
 use lib.Seq.{take_all}
-use Rattle.computed.specs.Choice.{if◌then◌else◌}
+use Rattle.std.specs.Prelude.{if◌then◌else◌}
 use Rattle.computed.proofs.Choice.{le_or_lt}
 use Rattle.diagnostics.specs.Reports.{Column, none, number, Line, line_of}
 use Rattle.diagnostics.specs.declared.I2cDiagnostic.{I2cDiagnostic}

@@ -1,5 +1,6 @@
 -- The text that `clockrun` prints, byte by byte: document 01, 'Script answers'. Assumes nothing.
-use Rattle.computed.specs.Prelude.{ℕ, zero, suc, ◌+◌, ◌/◌, ◌%◌, List, [], ◌∷◌, ◌++◌, ltb, eqb, if◌then◌else◌}
+use Rattle.computed.specs.Prelude.{ℕ, zero, suc, List, [], ltb, eqb}
+use Rattle.std.specs.Prelude.{◌+◌, ◌/◌, ◌%◌, ◌∷◌, ◌++◌, if◌then◌else◌}
 use Rattle.diagnostics.specs.Reports.{Word, UNDEFINED, READONLY, NOREGISTER, NOTMODELLED, Column, none, number, Line, line_of}
 use Rattle.diagnostics.specs.declared.I2cDiagnostic.{I2cDiagnostic}
 

@@ -13,7 +13,7 @@ use lib.ListN.{length}
 use borrow.Author.Tests.{ltb-false, le-ltb, eqb-true, eqb-false, eq-eqb}
 use Rattle.refusals.specs.Numbered.{Numbered, accepted, refused, and_then}
 use Rattle.refusals.proofs.Checks.{never}
-use Rattle.computed.specs.Choice.{if◌then◌else◌}
+use Rattle.std.specs.Prelude.{if◌then◌else◌}
 use Rattle.computed.proofs.Choice.{chosen}
 use Rattle.script.specs.Records.{Legal, FirstFault, record_fault, records_in, checked_length, checked_from, checked_script}
 

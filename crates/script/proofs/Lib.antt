@@ -7,4 +7,3 @@ pub mod Lossless
 pub mod RunLaws
 pub mod RunVerdicts
 pub mod HostLaws
-pub mod Rows

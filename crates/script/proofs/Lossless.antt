@@ -6,7 +6,7 @@ use mathlib.Core.Path.{◌≡◌, refl}
 use lib.Dec.{eqb}
 use lib.IntN.{ℤ}
 use Rattle.refusals.specs.Numbered.{Numbered, accepted, refused}
-use Rattle.computed.specs.Choice.{if◌then◌else◌}
+use Rattle.std.specs.Prelude.{if◌then◌else◌}
 use Rattle.computed.proofs.Lossless.{lossless}
 use Rattle.calendar.proofs.Lossless.{value}
 use Rattle.script.specs.Records.{check_numbered}

@@ -11,7 +11,7 @@ use lib.ListN.{length, replicate, length-replicate}
 use borrow.Author.Tests.{eqb-true, eq-eqb}
 use Rattle.refusals.specs.Numbered.{Numbered, accepted, refused, and_then, unless}
 use Rattle.refusals.proofs.Checks.{never}
-use Rattle.computed.specs.Choice.{if◌then◌else◌}
+use Rattle.std.specs.Prelude.{if◌then◌else◌}
 use Rattle.calendar.specs.Stated.{InRange, date_time}
 use Rattle.calendar.proofs.Laws.{in_range_accepted, month_bounds}
 use Rattle.diagnostics.specs.declared.I2cDiagnostic.{I2cDiagnostic}

@@ -1,5 +1,6 @@
--- Need not be believed: the promises of functions that are no calls of document 01. `run` and `run_values`, whose promise is `Ran`, consume those on stores (`shows` in proofs/Rows.antt); `clock_script_check` and `clock_script_run`, whose promise is an equation with `host_number`, consume `refusal_of` (proofs/HostLaws.antt); `listing` of script_listing/src/lib.rt consumes it and `record_at`, and promises an equation with `listing_of` of script_listing/specs/Listing.antt. Assumes nothing.
-use Rattle.computed.specs.Prelude.{ℕ, cond, true, false, List, [], ◌∷◌, ◌≡◌, ltb, eqb, length, nat_abs, if◌then◌else◌}
+-- Need not be believed: the promises of functions that are no calls of document 01. Those of `run` and `run_values`, `Ran`, follow from those on stores; `clock_script_check` and `clock_script_run`, whose promise is an equation with `host_number`, consume `refusal_of` (proofs/HostLaws.antt); `listing` of script_listing/src/lib.rt consumes it and `record_at`, and promises an equation with `listing_of` of script_listing/specs/Listing.antt. Assumes nothing.
+use Rattle.computed.specs.Prelude.{ℕ, cond, true, false, List, [], ltb, eqb, length, nat_abs}
+use Rattle.std.specs.Prelude.{◌∷◌, ◌≡◌, if◌then◌else◌}
 use Rattle.refusals.specs.Numbered.{Numbered, accepted, refused}
 use Rattle.diagnostics.specs.declared.I2cDiagnostic.{I2cDiagnostic}
 use Rattle.ds3231.specs.declared.Ds3231.{Ds3231}

@@ -1,5 +1,6 @@
 -- What a run of a script answers and leaves, by the chip's own calls, record after record: document 01, 'Script answers' and 'The table of refusals'. Assumes nothing.
-use Rattle.computed.specs.Prelude.{ℕ, zero, suc, ◌+◌, ◌*◌, ◌/◌, ◌%◌, not, List, [], ◌∷◌, ◌++◌, ◌≡◌, eqb, length, replicate, nat_abs, if◌then◌else◌}
+use Rattle.computed.specs.Prelude.{ℕ, zero, suc, not, List, [], eqb, length, replicate, nat_abs}
+use Rattle.std.specs.Prelude.{◌+◌, ◌*◌, ◌/◌, ◌%◌, ◌∷◌, ◌++◌, ◌≡◌, if◌then◌else◌}
 use Rattle.refusals.specs.Numbered.{Numbered, accepted, refused, and_then, unless}
 use Rattle.diagnostics.specs.Reports.{unwritten}
 use Rattle.diagnostics.specs.declared.I2cDiagnostic.{I2cDiagnostic}

@@ -50,7 +50,7 @@ pub fn run(
     script: &[u8],
     answers: &mut [u8],
 ) -> RunAnswer
-    ensures { Ran (record { chip = chip.entry.now; store = store.old }) script.now answers.old result chip.exit.now store.new answers.new }
+    ensures { Ran (record { chip = chip.old; store = store.old }) script.now answers.old result chip.new store.new answers.new }
 {
     let c = *chip;
     let n = whole(store.len());

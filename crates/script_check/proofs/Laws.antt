@@ -14,7 +14,7 @@ use lib.ListN.{length}
 use borrow.Author.Tests.{ltb-false, le-ltb, eqb-true, eq-eqb}
 use Rattle.refusals.specs.Numbered.{Numbered, accepted, refused, and_then}
 use Rattle.refusals.proofs.Checks.{never}
-use Rattle.computed.specs.Choice.{if◌then◌else◌}
+use Rattle.std.specs.Prelude.{if◌then◌else◌}
 use Rattle.computed.proofs.Choice.{chosen}
 use Rattle.script_check.specs.Records.{Legal, FirstFault, instant_of, last_of, record_fault, records_in, fault_number, judgement_numbered, verdict_of, checked_length, checked_from, checked_script}
 use Rattle.script_check.specs.declared.Judgement.{Judgement}

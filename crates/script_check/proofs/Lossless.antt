@@ -6,7 +6,7 @@ use mathlib.Core.Path.{◌≡◌, refl}
 use lib.Dec.{eqb}
 use lib.IntN.{ℤ, nat_abs}
 use Rattle.refusals.specs.Numbered.{Numbered, accepted, refused}
-use Rattle.computed.specs.Choice.{if◌then◌else◌}
+use Rattle.std.specs.Prelude.{if◌then◌else◌}
 use Rattle.computed.proofs.Lossless.{lossless}
 use Rattle.script_check.specs.Records.{judgement_numbered, check_numbered}
 use Rattle.script_check.specs.declared.Judgement.{Judgement}

@@ -1,5 +1,6 @@
 -- Need not be believed: `folded_same` of proofs/Folds.antt says that for every script the fold's answer is that of `checked_script`, which `check` promises. What document 02, Order 3, asks of the judge, to go by a record's own sixteen bytes and the running number alone, is read here. Assumes nothing.
-use Rattle.computed.specs.Prelude.{ℕ, zero, suc, ◌*◌, List, ltb, length, take, drop, replicate, if◌then◌else◌}
+use Rattle.computed.specs.Prelude.{ℕ, zero, suc, List, ltb, length, take, drop, replicate}
+use Rattle.std.specs.Prelude.{◌*◌, if◌then◌else◌}
 use Rattle.refusals.specs.Numbered.{Numbered, accepted, refused, and_then}
 use Rattle.script_check.specs.Records.{records_in, judged_after, judgement_numbered, verdict_of, checked_length}
 use Rattle.script_check.specs.declared.Judgement.{Judgement}

@@ -1,5 +1,6 @@
 -- A script's records, which scripts are legal, and what the check answers: document 01, 'Script answers' and 'The table of refusals'. Assumes nothing.
-use Rattle.computed.specs.Prelude.{ℕ, zero, suc, ◌+◌, ◌*◌, ◌≤◌, ◌<◌, ◌/◌, ◌%◌, Bool, ◌&&◌, ◌||◌, List, [], ◌∷◌, ◌≡◌, ltb, eqb, length, get_or, pos, if◌then◌else◌}
+use Rattle.computed.specs.Prelude.{ℕ, zero, suc, Bool, List, [], ltb, eqb, length, get_or, pos}
+use Rattle.std.specs.Prelude.{◌+◌, ◌*◌, ◌≤◌, ◌<◌, ◌/◌, ◌%◌, ◌&&◌, ◌||◌, ◌∷◌, ◌≡◌, if◌then◌else◌}
 use Rattle.refusals.specs.Numbered.{Numbered, accepted, refused, and_then}
 use Rattle.script_check.specs.declared.CheckAnswer as CheckAnswer
 use Rattle.script_check.specs.declared.Judgement.{Judgement}

@@ -8,7 +8,7 @@ use native.Mathlib.Omega.{arith}
 use lib.Dec.{leb}
 use lib.ListN.{length, take, drop}
 use borrow.Author.Tests.{le-leb, lt-leb}
-use Rattle.computed.specs.Choice.{if◌then◌else◌}
+use Rattle.std.specs.Prelude.{if◌then◌else◌}
 use Rattle.listing.specs.Appended.{appended, Appended, AppendedIn}
 use Rattle.listing.specs.Text.{header, diagnostic_lines, dropped_line}
 use Rattle.listing.proofs.Appending.{also, fitting}

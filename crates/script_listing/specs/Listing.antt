@@ -1,5 +1,6 @@
 -- What `clockrun` prints for a script: document 01, 'Script answers'. Assumes nothing.
-use Rattle.computed.specs.Prelude.{ℕ, zero, suc, List, [], ◌∷◌, ◌++◌, take, drop, length, ◌≡◌, nat_abs, leb, if◌then◌else◌}
+use Rattle.computed.specs.Prelude.{ℕ, zero, suc, List, [], take, drop, length, nat_abs, leb}
+use Rattle.std.specs.Prelude.{◌∷◌, ◌++◌, ◌≡◌, if◌then◌else◌}
 use Rattle.refusals.specs.Numbered.{Numbered, accepted, refused}
 use Rattle.listing.specs.Text.{header, event_line, diagnostic_lines, dropped_line, refused_line}
 use Rattle.script.specs.Records.{instant_of, kind_of, value_of, records_in, checked_script}

@@ -1,5 +1,6 @@
 -- Where a transfer of a slice may stop. Assumes nothing.
-use Rattle.computed.specs.Prelude.{ℕ, ◌<◌, ◌≤◌, ◌≡◌, ℤ, pos, negsuc}
+use Rattle.computed.specs.Prelude.{ℕ, ℤ, pos, negsuc}
+use Rattle.std.specs.Prelude.{◌<◌, ◌≤◌, ◌≡◌}
 use Rattle.streams.specs.declared.Transfer.{Transfer}
 use Rattle.streams.specs.declared.Transfer.TheVariants.{Whole, Stopped}
 

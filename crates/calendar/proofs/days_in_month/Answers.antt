@@ -10,7 +10,7 @@ use lib.ListN.{get_or}
 use borrow.Author.Rules.{rules}
 use borrow.Author.Tests.{ne_eqb}
 use Rattle.gregorian.specs.Calendar.{leap, months, month_length}
-use Rattle.computed.specs.Choice.{if◌then◌else◌}
+use Rattle.std.specs.Prelude.{if◌then◌else◌}
 use Rattle.computed.proofs.Claim.{Claim, eq, each}
 use Rattle.calendar.proofs.days_in_month.Goals as goal
 

@@ -6,7 +6,7 @@ use native.Mathlib.Omega.{arith}
 use lib.Bits.{bit_and, and_high}
 use lib.Dec.{leb, leb-zero}
 use borrow.Author.Tests.{eq-eqb, ne_eqb}
-use Rattle.computed.specs.Choice.{if◌then◌else◌}
+use Rattle.std.specs.Prelude.{if◌then◌else◌}
 use Rattle.fields.specs.Table.{undefined, sets, bit, from_digits, decimal, in_field, plain_meaning, dial_meaning, meaning}
 use Rattle.fields.specs.Answers.{of_digits_within}
 use Rattle.fields.specs.declared.FromBcd.{FromBcd}

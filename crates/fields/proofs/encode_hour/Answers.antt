@@ -4,7 +4,7 @@ use mathlib.Core.Path.{◌≡◌, sym, ap, ap₂, ◌∙◌}
 use Prim.Native.Nat.{ℕ, ◌%◌}
 use lib.Bits.{bit_or}
 use lib.Dec.{leb, eqb}
-use Rattle.computed.specs.Choice.{if◌then◌else◌}
+use Rattle.std.specs.Prelude.{if◌then◌else◌}
 use Rattle.fields.specs.Bytes.{to_digits, hour_byte}
 use Rattle.fields.proofs.encode_hour.Goals as goal
 

@@ -6,7 +6,7 @@ use mathlib.Core.Path.{◌≡◌, sym, ◌∙◌}
 use native.Mathlib.Omega.{arith}
 use lib.Dec.{ltb}
 use borrow.Author.Tests.{lt-ltb, le-ltb}
-use Rattle.computed.specs.Choice.{if◌then◌else◌}
+use Rattle.std.specs.Prelude.{if◌then◌else◌}
 use Rattle.script_check.specs.Records.{little_endian, instant_of, kind_of, value_of, padding_of, bad_value, judged_after}
 use Rattle.script_check.specs.declared.Judgement.TheVariants.{Instant, Fault}
 use Rattle.script_check.specs.declared.RecordFault.TheVariants.{Falling}

@@ -1,5 +1,4 @@
 -- `script::runs::run` meets its contract: the walk of `Run.antt`, at `whole`, `unwritten` and `ran`.
--- Assumes nothing.
 use mathlib.Core.Path.{refl}
 use contract.Running.{tables, tables_of}
 use denote.Triple.Spec.{triple_of}
@@ -25,15 +24,66 @@ use Rattle.script.proofs.runs.ran.Symbol.{name as #values}
 use Rattle.script.proofs.runs.ran.Met as values-thm
 use Rattle.script.specs.contracts.runs.run.Key.{name as #key}
 use Rattle.script.specs.contracts.runs.run as self
-use Rattle.script.proofs.runs.run.Statement as stated
 use Rattle.script.proofs.runs.run.Code as code
+use Rattle.script.proofs.runs.run.Goals as goal
 
-pub run_spec : {M : Type 1} → stated.statement M
-unfolding code.routine tables_of whole_of
-run_spec 𝓤 𝓛 𝓜 𝓡 =
-    entered 𝓤 𝓛.H (triple_of 𝓛 self.signature (self.spec 𝓛 𝓜.mem 𝓡.run))
-    (tables 𝓤 𝓛.H 𝓜 𝓡 code.env).C (tables 𝓤 𝓛.H 𝓜 𝓡 code.env).Λ #key code.function (code.unfolded 𝓤 𝓛.H 𝓜 𝓡)
-    (runs_script chip answer diagnostic outcome 256 chip_data answer_data diagnostic_data laws unwritten 16 tt refl 𝓛 #whole #blank #values RanOnStores Said shows (tables_of 𝓤 𝓛.H 𝓜 (tables 𝓤 𝓛.H 𝓜 𝓡 code.env))
-    (cited 𝓤 𝓛.H (Asked 𝓛 whole.ended (whole.clauses 𝓛 𝓜.mem 𝓡.run)) 𝓜 𝓡 code.env #whole whole-def.routine code.calls-script::runs::whole (whole-thm.met 𝓤 𝓛 𝓜 𝓡))
-    (cited 𝓤 𝓛.H (Asked 𝓛 blank.ended (blank.clauses 𝓛 𝓜.mem 𝓡.run)) 𝓜 𝓡 code.env #blank blank-def.routine code.calls-diagnostics::I2cDiagnostic::unwritten (blank-thm.met 𝓤 𝓛 𝓜 𝓡))
-    (cited 𝓤 𝓛.H (Asked 𝓛 values.ended (values.clauses 𝓛 𝓜.mem 𝓡.run)) 𝓜 𝓡 code.env #values values-def.routine code.calls-script::runs::ran (values-thm.met 𝓤 𝓛 𝓜 𝓡)))
+
+pub whole-n-requires : goal.whole-n-requires
+whole-n-requires c = ?
+
+pub unwritten-records-requires : goal.unwritten-records-requires
+unwritten-records-requires c = ?
+
+pub loop-i-init : goal.loop-i-init
+loop-i-init c = ?
+
+pub offset_bounds-store-i : goal.offset_bounds-store-i
+offset_bounds-store-i c = ?
+
+pub slice_copy_out-records : goal.slice_copy_out-records
+slice_copy_out-records c = ?
+
+pub offset_bounds-records-i : goal.offset_bounds-records-i
+offset_bounds-records-i c = ?
+
+pub bounds-records-i : goal.bounds-records-i
+bounds-records-i c = ?
+
+pub overflow_add-i : goal.overflow_add-i
+overflow_add-i c = ?
+
+pub loop-i-smaller : goal.loop-i-smaller
+loop-i-smaller c = ?
+
+pub loop-i-preserved : goal.loop-i-preserved
+loop-i-preserved c = ?
+
+pub ran-out-requires : goal.ran-out-requires
+ran-out-requires c = ?
+
+pub loop-j-init : goal.loop-j-init
+loop-j-init c = ?
+
+pub offset_bounds-back-j : goal.offset_bounds-back-j
+offset_bounds-back-j c = ?
+
+pub bounds-back-j : goal.bounds-back-j
+bounds-back-j c = ?
+
+pub offset_bounds-store-j : goal.offset_bounds-store-j
+offset_bounds-store-j c = ?
+
+pub bounds-store-j : goal.bounds-store-j
+bounds-store-j c = ?
+
+pub overflow_add-j : goal.overflow_add-j
+overflow_add-j c = ?
+
+pub loop-j-smaller : goal.loop-j-smaller
+loop-j-smaller c = ?
+
+pub loop-j-preserved : goal.loop-j-preserved
+loop-j-preserved c = ?
+
+pub returns : goal.returns
+returns c = ?

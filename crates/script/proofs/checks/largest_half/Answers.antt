@@ -1,13 +1,11 @@
 -- `script::checks::largest_half` meets its contract, kind by kind.
--- Assumes nothing.
 use Prim.Native.Nat.{ℕ, ◌+◌, ◌*◌, ◌≤◌}
 use mathlib.Core.Bool.{Bool, true, false, ◌||◌}
 use mathlib.Core.Path.{◌≡◌, refl, sym, ◌∙◌, subst}
 use native.Mathlib.Omega.{arith}
 use borrow.Author.Tests.{le-ltb, ltb-false}
 use Rattle.script.specs.Records.{bad_value}
-use Rattle.script.proofs.checks.largest_half.Statement.{statement}
-use Rattle.script.proofs.checks.largest_half.Tie as tie
+use Rattle.script.proofs.checks.largest_half.Goals as goal
 
 -- r is the largest half of the kind k
 abbrev Largest : ℕ → ℕ → Type 0
@@ -33,17 +31,14 @@ stop : Largest 3 3
 unfolding bad_value
 stop = (omega arith, λ v h. le-ltb 0 v (omega arith), λ v h e. let w = ltb-false 0 v e in omega arith)
 
-returns : tie.Need-returns
-returns c = subst (λ (k : ℕ). Largest k 65280) (omega arith) start
+pub returns-in-0 : goal.returns-in-0
+returns-in-0 c = subst (λ (k : ℕ). Largest k 65280) (omega arith) start
 
-returns-2 : tie.Need-returns-2
-returns-2 c = subst (λ (k : ℕ). Largest k 65281) (omega arith) write
+pub returns-in-1 : goal.returns-in-1
+returns-in-1 c = subst (λ (k : ℕ). Largest k 65281) (omega arith) write
 
-returns-3 : tie.Need-returns-3
-returns-3 c = subst (λ (k : ℕ). Largest k 258) (omega arith) read
+pub returns-in-2 : goal.returns-in-2
+returns-in-2 c = subst (λ (k : ℕ). Largest k 258) (omega arith) read
 
-returns-4 : tie.Need-returns-4
-returns-4 c = subst (λ (k : ℕ). Largest k 3) (omega arith) stop
-
-pub largest-half-spec : {M : Type 1} → statement M
-largest-half-spec = tie.close (tie.spec returns returns-2 returns-3 returns-4)
+pub returns-in_default : goal.returns-in_default
+returns-in_default c = subst (λ (k : ℕ). Largest k 3) (omega arith) stop

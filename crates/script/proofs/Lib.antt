@@ -7,3 +7,4 @@ pub mod Lossless
 pub mod RunLaws
 pub mod RunVerdicts
 pub mod HostLaws
+pub mod Copies

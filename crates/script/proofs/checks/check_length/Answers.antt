@@ -3,7 +3,6 @@ use borrow.Author.Tests.{lt-ltb, le-ltb, eq-eqb, ne_eqb}
 use Rattle.script.specs.Records.{checked_length}
 use Rattle.script.proofs.checks.check_length.Goals as goal
 
-
 pub returns-then-len-gt-MAX_SCRIPT : goal.returns-then-len-gt-MAX_SCRIPT
 unfolding checked_length
 returns-then-len-gt-MAX_SCRIPT c = rw (lt-ltb _ _ c.if-len-gt-MAX_SCRIPT.true)

@@ -6,7 +6,6 @@ use mathlib.Core.Path.{◌≡◌, sym, ◌∙◌}
 use native.Mathlib.Omega.{arith}
 use lib.Dec.{ltb}
 use borrow.Author.Tests.{lt-ltb, le-ltb}
-use borrow.Author.Rules.{rules}
 use Rattle.script.specs.Records.{little_endian, kind_of, value_of, bad_value, record_fault, checked_from}
 use Rattle.script.proofs.Bytes.{half}
 use Rattle.script.proofs.checks.check_record.Goals as goal

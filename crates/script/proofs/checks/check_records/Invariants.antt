@@ -1,8 +1,6 @@
 -- `script::checks::check_records` meets its contract. The loop's invariant: the records before record i are legal, so that the verdict is that on the others.
 use Prim.Native.Nat.{◌-◌}
-use native.Mathlib.Omega.{arith}
-use borrow.Author.Rules.{rules}
-use Rattle.script.proofs.CheckVerdicts.{Passed, none_passed, passes, stops, ends}
+use Rattle.script.proofs.CheckVerdicts.{Passed}
 use Rattle.script.proofs.checks.check_records.Given as goal
 
 abbrev pub invariant-loop-i : goal.invariant-loop-i

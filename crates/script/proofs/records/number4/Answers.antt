@@ -1,9 +1,7 @@
 -- `script::records::number4` meets its contract.
 use native.Mathlib.Omega.{arith}
-use borrow.Author.Rules.{rules}
 use Rattle.script.specs.Records.{little_endian}
 use Rattle.script.proofs.records.number4.Goals as goal
-
 
 pub returns : goal.returns
 unfolding little_endian

@@ -1,8 +1,6 @@
 -- `script::runs::bus_event` meets its contract.
 use Rattle.script.proofs.Events.{is_start, is_write, is_read, is_stop}
-use borrow.Author.Rules.{rules}
 use Rattle.script.proofs.runs.bus_event.Goals as goal
-
 
 pub returns-in-0 : goal.returns-in-0
 returns-in-0 c = is_start _ _ _ _ _ c.kind.ensures c.value-value.ensures c.instant-at.ensures c.in-0.is

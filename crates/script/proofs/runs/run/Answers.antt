@@ -1,89 +1,34 @@
--- `script::runs::run` meets its contract: the walk of `Run.antt`, at `whole`, `unwritten` and `ran`.
-use mathlib.Core.Path.{refl}
-use contract.Running.{tables, tables_of}
-use denote.Triple.Spec.{triple_of}
-use denote.Triple.Table.{entered, cited}
-use Rattle.walking.proofs.CallData.{Asked}
-use Rattle.walking.proofs.Run.{runs_script}
-use Rattle.diagnostics.proofs.Rows.{diagnostic, diagnostic_data}
-use Rattle.ds3231_bus.proofs.Rows.{chip, chip_data}
-use Rattle.diagnostics.specs.Reports.{unwritten}
-use Rattle.script.specs.ByValue.{whole_of, RanOnStores}
-use Rattle.script.proofs.Rows.{answer, answer_data, outcome, laws, Said, shows}
-use Rattle.script.specs.contracts.runs.whole as whole
-use Rattle.script.proofs.runs.whole.Symbol as whole-def
-use Rattle.script.proofs.runs.whole.Symbol.{name as #whole}
-use Rattle.script.proofs.runs.whole.Met as whole-thm
-use Rattle.diagnostics.specs.contracts.I2cDiagnostic.unwritten as blank
-use Rattle.diagnostics.proofs.I2cDiagnostic.unwritten.Symbol as blank-def
-use Rattle.diagnostics.proofs.I2cDiagnostic.unwritten.Symbol.{name as #blank}
-use Rattle.diagnostics.proofs.I2cDiagnostic.unwritten.Met as blank-thm
-use Rattle.script.specs.contracts.runs.ran as values
-use Rattle.script.proofs.runs.ran.Symbol as values-def
-use Rattle.script.proofs.runs.ran.Symbol.{name as #values}
-use Rattle.script.proofs.runs.ran.Met as values-thm
-use Rattle.script.specs.contracts.runs.run.Key.{name as #key}
-use Rattle.script.specs.contracts.runs.run as self
-use Rattle.script.proofs.runs.run.Code as code
+use Rattle.std.proofs.Common.{◌≡◌, ◌<◌, length, arith, refl, ap, ◌∙◌}
+use Rattle.std.proofs.Math.ListN.{length-set}
+use Rattle.std.specs.Prelude.{if◌then◌else◌, eqb}
+use Rattle.std.proofs.Common.{rules}
+use Rattle.walking.proofs.Copied.{Copied, copied_next}
+use Rattle.script.proofs.Copies.{whole_within, copied_in, copied_back}
 use Rattle.script.proofs.runs.run.Goals as goal
 
-
-pub whole-n-requires : goal.whole-n-requires
-whole-n-requires c = ?
-
-pub unwritten-records-requires : goal.unwritten-records-requires
-unwritten-records-requires c = ?
-
 pub loop-i-init : goal.loop-i-init
-loop-i-init c = ?
-
-pub offset_bounds-store-i : goal.offset_bounds-store-i
-offset_bounds-store-i c = ?
-
-pub slice_copy_out-records : goal.slice_copy_out-records
-slice_copy_out-records c = ?
-
-pub offset_bounds-records-i : goal.offset_bounds-records-i
-offset_bounds-records-i c = ?
-
-pub bounds-records-i : goal.bounds-records-i
-bounds-records-i c = ?
-
-pub overflow_add-i : goal.overflow_add-i
-overflow_add-i c = ?
-
-pub loop-i-smaller : goal.loop-i-smaller
-loop-i-smaller c = ?
+loop-i-init c =
+    let w = whole_within (length c.args.store.now) in
+    record { within = omega arith; in_store = omega (arith, w, c.whole-n.ensures); in_array = omega (arith, w, c.whole-n.ensures); copied = refl }
 
 pub loop-i-preserved : goal.loop-i-preserved
-loop-i-preserved c = ?
-
-pub ran-out-requires : goal.ran-out-requires
-ran-out-requires c = ?
-
-pub loop-j-init : goal.loop-j-init
-loop-j-init c = ?
-
-pub offset_bounds-back-j : goal.offset_bounds-back-j
-offset_bounds-back-j c = ?
-
-pub bounds-back-j : goal.bounds-back-j
-bounds-back-j c = ?
-
-pub offset_bounds-store-j : goal.offset_bounds-store-j
-offset_bounds-store-j c = ?
-
-pub bounds-store-j : goal.bounds-store-j
-bounds-store-j c = ?
-
-pub overflow_add-j : goal.overflow_add-j
-overflow_add-j c = ?
-
-pub loop-j-smaller : goal.loop-j-smaller
-loop-j-smaller c = ?
+loop-i-preserved c =
+    let v = c.loop-i.invariant in
+    let s : c.loop-i.i < length c.args.store.now = omega arith in
+    record { within = omega arith; in_store = v.in_store; in_array = v.in_array; copied = rw v.copied (copied_next _ _ _ _ s (omega arith)) }
 
 pub loop-j-preserved : goal.loop-j-preserved
-loop-j-preserved c = ?
+loop-j-preserved c =
+    let v = c.loop-j.invariant in
+    let o : c.loop-j.j < length c.args.store.now = omega arith in
+    record { within = omega arith; in_store = simp length-set v.in_store; in_array = v.in_array; copied = rw v.copied (copied_next _ _ _ _ (omega arith) o) }
 
 pub returns : goal.returns
-returns c = ?
+returns c =
+    let n = c.whole-n.result in
+    let i : c.loop-i.i ≡ n = omega arith in
+    let j : c.loop-j.j ≡ n = omega arith in
+    let st = c.args.store.now in
+    let rs = c.ran-out.result.records in
+    let back : c.loop-j.store ≡ (if eqb (length st) 256 then rs else st) = copied_back st rs c.loop-j.store n c.whole-n.ensures (search rules) (c.loop-j.invariant.copied ∙ ap (Copied rs st) j) in
+    rw back (c.ran-out.ensures st refl (λ e. copied_in st _ c.loop-i.records n c.whole-n.ensures (search rules) (c.loop-i.invariant.copied ∙ ap (Copied st _) i) e))

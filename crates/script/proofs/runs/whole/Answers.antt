@@ -1,10 +1,8 @@
-
 use mathlib.Core.Path.{sym, ap}
 use mathlib.Core.Bool.{Bool, cond}
 use borrow.Author.Tests.{eq-eqb, ne_eqb}
 use Rattle.script.specs.ByValue.{whole_of}
 use Rattle.script.proofs.runs.whole.Goals as goal
-
 
 pub returns-then-len-eq-MAX_DIAGNOSTICS : goal.returns-then-len-eq-MAX_DIAGNOSTICS
 unfolding whole_of

@@ -14,7 +14,17 @@ abbrev pub bytes_moved : ℤ → ℕ
 bytes_moved (pos k) = k
 bytes_moved (negsuc k) = 0
 
--- of n bytes fewer were moved only where the last call moved none. That all were moved, and which bytes, is left free: the contracts of `read` and `write` do not say it
+-- of n bytes fewer were moved only where the last call moved none
 abbrev pub Transferred : ℕ → Transfer → Type 0
 Transferred n Whole = Unit {0}
 Transferred n (Stopped count answer) = (count < n) × (bytes_moved answer ≡ 0)
+
+-- how many of n bytes were moved
+abbrev pub count_of : ℕ → Transfer → ℕ
+count_of n Whole = n
+count_of n (Stopped count answer) = count
+
+-- E holds where the last call answered 0
+abbrev pub EndsWith : Transfer → Type 0 → Type 0
+EndsWith Whole E = Unit {0}
+EndsWith (Stopped count answer) E = answer ≡ pos 0 → E

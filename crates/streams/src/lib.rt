@@ -1,9 +1,11 @@
 // Input and output, whole: calls of `read` and `write` until nothing is left to move, or until one moves nothing.
-// To read it: `specs/Transfers.antt` has where a transfer may stop. No contract can say which bytes the system moves.
+// To read it: `specs/Transfers.antt` has where a transfer may stop. The clauses `bytes` say which bytes were moved, for a
+// reader or a writer whose bytes are known, as one over memory; no contract can say which bytes the system moves.
 #![tactic(auto)]
 
-ghost use Rattle.std.specs.Prelude.{◌≡◌, ◌≤◌, ◌-◌, length, take};
-ghost use Rattle.streams.specs.Transfers.{bytes_moved, Moved, Transferred};
+ghost use Rattle.std.specs.Prelude.{◌≡◌, ◌<◌, ◌≤◌, ◌-◌, length, take, drop, pos};
+ghost use Rattle.std.specs.Io.KnownBytes.{Appends, Consumes, IsAtEnd};
+ghost use Rattle.streams.specs.Transfers.{bytes_moved, count_of, EndsWith, Moved, Transferred};
 
 use std::io::{Read, Write};
 
@@ -18,7 +20,9 @@ pub enum Transfer {
 
 // Reads until `input` is full, the reader ends or a read fails.
 pub fn read_input<R: Read>(reader: &mut R, input: &mut [u8]) -> Transfer
-    ensures { Transferred (length input.old) result }
+    ensures transferred { Transferred (length input.old) result }
+    ensures bytes { Consumes (R.remaining reader.old) (R.remaining reader.new) (take (count_of (length input.old) result) input.new) }
+    ensures end { EndsWith result (IsAtEnd (R.remaining reader.new)) }
 {
     let mut count = 0;
     while count < input.len() {
@@ -34,7 +38,8 @@ pub fn read_input<R: Read>(reader: &mut R, input: &mut [u8]) -> Transfer
 
 // Reads as `read_input` does, and answers how many bytes stand at the start of `input`.
 pub fn read_full<R: Read>(reader: &mut R, input: &mut [u8]) -> usize
-    ensures { result ≤ length input.new }
+    ensures in_bounds { result ≤ length input.new }
+    ensures bytes { Consumes (R.remaining reader.old) (R.remaining reader.new) (take result input.new) }
 {
     match read_input(reader, input) {
         Transfer::Whole => input.len(),
@@ -47,6 +52,8 @@ fn read_behind<R: Read>(reader: &mut R, input: &mut [u8], count: usize) -> isize
     requires { count ≤ length input.old }
     ensures moved { Moved (length input.old - count) result }
     ensures input_unchanged { take count input.new ≡ take count input.old }
+    ensures bytes { Consumes (R.remaining reader.old) (R.remaining reader.new) (take (bytes_moved result) (drop count input.new)) }
+    ensures end { result ≡ pos 0 → count < length input.old → IsAtEnd (R.remaining reader.new) }
 {
     match reader.read(&mut input[count..]) {
         Ok(more) => more as isize,
@@ -56,7 +63,8 @@ fn read_behind<R: Read>(reader: &mut R, input: &mut [u8], count: usize) -> isize
 
 // Writes until all of `output` is written or a write moves nothing.
 pub fn write_output<W: Write>(writer: &mut W, output: &[u8]) -> Transfer
-    ensures { Transferred (length output.now) result }
+    ensures transferred { Transferred (length output.now) result }
+    ensures bytes { Appends (W.contents writer.old) (W.contents writer.new) (take (count_of (length output.now) result) output.now) }
 {
     let mut count = 0;
     while count < output.len() {
@@ -73,7 +81,8 @@ pub fn write_output<W: Write>(writer: &mut W, output: &[u8]) -> Transfer
 // One write, of what stands behind the first `count` bytes.
 fn write_behind<W: Write>(writer: &mut W, output: &[u8], count: usize) -> isize
     requires { count ≤ length output.now }
-    ensures { Moved (length output.now - count) result }
+    ensures moved { Moved (length output.now - count) result }
+    ensures bytes { Appends (W.contents writer.old) (W.contents writer.new) (take (bytes_moved result) (drop count output.now)) }
 {
     match writer.write(&output[count..]) {
         Ok(written) => written as isize,

@@ -19,29 +19,20 @@ module _ (s : List ℕ) (i r : ℕ) (is-half : r ≡ little_endian s (16 * i + 8
   bad-padding : (v : ℕ) → v ≡ value_of s i → v ≤ 255 → l < r → bad_value k v ≡ false → ltb 0 (little_endian s (16 * i + 10) 6) ≡ true
   bad-padding v e b h g = lt-ltb 0 (little_endian s (16 * i + 10) 6) (omega (arith, half s i, largest.2 v b g))
 
-pub returns-then-kind-gt3 : goal.returns-then-kind-gt3
-unfolding record_fault checked_from
-returns-then-kind-gt3 c = rw (← c.kind-kind.ensures, lt-ltb _ _ c.if-kind-gt3.true)
-
-pub returns-then-is_bad_value : goal.returns-then-is_bad_value
-unfolding record_fault checked_from
-returns-then-is_bad_value c =
-    rw (← c.kind-kind.ensures, le-ltb _ _ c.if-kind-gt3.false, ← c.value.ensures, ← c.is_bad_value.ensures, c.if-is_bad_value.true)
-
 pub returns-then-number8-largest_half : goal.returns-then-number8-largest_half
 unfolding record_fault checked_from
 returns-then-number8-largest_half c =
     let g = bad-padding c.args.script.now c.args.i _ c.number8.ensures _ _ c.kind-kind.ensures c.largest_half.ensures _ c.value.ensures (omega arith) c.if-number8-largest_half.true (sym c.is_bad_value.ensures ∙ c.if-is_bad_value.false) in
-    rw (← c.kind-kind.ensures, le-ltb _ _ c.if-kind-gt3.false, ← c.value.ensures, ← c.is_bad_value.ensures, c.if-is_bad_value.false, g)
+    rw (← c.kind-kind.ensures, le-ltb 3 c.kind-kind.result (omega arith), ← c.value.ensures, ← c.is_bad_value.ensures, c.if-is_bad_value.false, g)
 
 pub returns-then-instant-last : goal.returns-then-instant-last
 unfolding record_fault checked_from
 returns-then-instant-last c =
     let g = good c.args.script.now c.args.i _ c.number8.ensures _ _ c.kind-kind.ensures c.largest_half.ensures c.if-number8-largest_half.false in
-    rw (← c.kind-kind.ensures, le-ltb _ _ c.if-kind-gt3.false, g.0, g.1, ← c.instant.ensures, ← c.requires.1, lt-ltb _ _ c.if-instant-last.true)
+    rw (← c.kind-kind.ensures, le-ltb 3 c.kind-kind.result (omega arith), g.0, g.1, ← c.instant.ensures, ← c.requires.1, lt-ltb _ _ c.if-instant-last.true)
 
 pub returns : goal.returns
 unfolding record_fault checked_from
 returns c =
     let g = good c.args.script.now c.args.i _ c.number8.ensures _ _ c.kind-kind.ensures c.largest_half.ensures c.if-number8-largest_half.false in
-    rw (← c.kind-kind.ensures, le-ltb _ _ c.if-kind-gt3.false, g.0, g.1, ← c.instant.ensures, ← c.requires.1, le-ltb _ _ c.if-instant-last.false)
+    rw (← c.kind-kind.ensures, le-ltb 3 c.kind-kind.result (omega arith), g.0, g.1, ← c.instant.ensures, ← c.requires.1, le-ltb _ _ c.if-instant-last.false)

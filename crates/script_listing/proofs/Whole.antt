@@ -5,10 +5,8 @@ use mathlib.Core.List.{List, ◌++◌}
 use mathlib.Core.Path.{◌≡◌, ap, ◌∙◌}
 use native.Mathlib.Nat.{zero-add, min-le_right}
 use native.Mathlib.Omega.{arith}
-use lib.Dec.{leb}
 use lib.ListN.{length, take, drop}
 use borrow.Author.Tests.{le-leb, lt-leb}
-use Rattle.std.specs.Prelude.{if◌then◌else◌}
 use Rattle.listing.specs.Appended.{appended, Appended, AppendedIn}
 use Rattle.listing.specs.Text.{header, diagnostic_lines, dropped_line}
 use Rattle.listing.proofs.Appending.{also, fitting}

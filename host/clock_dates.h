@@ -8,8 +8,8 @@
  * function outside the archive, so any number of threads may call them at once. They take less than CLOCK_DATES_STACK
  * bytes of stack.
  *
- * The archive is for x86-64 Linux; `rt staticlib dates_host` makes it. A host is compiled, in the folder of the repository,
- * by
+ * The archive is for x86-64 Linux, on processors of x86-64-v2; `tools/build dates_host` makes it. A host is compiled, in the
+ * folder of the repository, by
  *   gcc -Ihost host/c/dates.c target/staticlib/libdates_host.a -o target/dates
  * where dates.c stands for the host. pkg-config and CMake find both paths, from any folder:
  *   PKG_CONFIG_PATH=$REPOSITORY/host pkg-config --cflags --libs clock_dates

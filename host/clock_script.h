@@ -26,7 +26,8 @@
  * Both are reentrant: they keep no global state, allocate nothing and call no function outside the archive, so any number
  * of threads may call them at once. They take less than CLOCK_SCRIPT_STACK bytes of stack.
  *
- * The archive is for x86-64 Linux; `rt staticlib script` makes it. A host is compiled, in the folder of the repository, by
+ * The archive is for x86-64 Linux, on processors of x86-64-v2; `tools/build script` makes it. A host is compiled, in the folder
+ * of the repository, by
  *   gcc -Ihost host/c/run.c target/staticlib/libscript.a -o target/run
  * where run.c stands for the host. pkg-config and CMake find both paths, from any folder:
  *   PKG_CONFIG_PATH=$REPOSITORY/host pkg-config --cflags --libs clock_script

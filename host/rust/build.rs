@@ -1,4 +1,4 @@
-//! Finds the archives that `rt staticlib script` and `rt staticlib dates_host` write, or says which is missing.
+//! Finds the archives that `tools/build script` and `tools/build dates_host` write, or says which is missing.
 //! They are looked for in the folder that the variable `CLOCK_STATICLIB` names (from the folder of this package, where that
 //! is a relative path), and without it in `target/staticlib` of this repository.
 use std::path::PathBuf;
@@ -6,7 +6,7 @@ use std::process::exit;
 
 const FOLDER: &str = "CLOCK_STATICLIB";
 
-/// The archives, by the Rattle crates that they are made of.
+/// The archives, by their names.
 const ARCHIVES: [&str; 2] = ["script", "dates_host"];
 
 fn folder() -> PathBuf {
@@ -22,10 +22,10 @@ fn main() {
     let archive = |name: &str| folder.join(format!("lib{name}.a"));
     let missing: Vec<&str> = ARCHIVES.into_iter().filter(|name| !archive(name).is_file()).collect();
     for name in &missing {
-        eprintln!("{} is missing: `rt staticlib {name}` makes it", archive(name).display());
+        eprintln!("{} is missing: `tools/build {name}` makes it", archive(name).display());
     }
     if !missing.is_empty() {
-        eprintln!("`rt staticlib` writes to target/staticlib; for another folder, name it in {FOLDER}");
+        eprintln!("`tools/build` writes to target/staticlib; for another folder, name it in {FOLDER}");
         exit(1);
     }
     println!("cargo:rerun-if-env-changed={FOLDER}");

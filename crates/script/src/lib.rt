@@ -12,6 +12,7 @@ mod records;
 mod runs;
 
 pub use checks::check;
+pub use host::{clock_script_check, clock_script_run};
 pub use numbers::{Refusal, run_refusal};
 pub use records::{Record, record_at};
 pub use runs::{RunAnswer, RunOutcome, run, run_from_power_on, run_values};

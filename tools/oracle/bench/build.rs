@@ -1,4 +1,4 @@
-//! Links the archives that `rt staticlib` writes.
+//! Links the archives that `tools/build` writes.
 use std::path::PathBuf;
 
 fn main() {

@@ -1,4 +1,4 @@
-//! Links the archive that `rt staticlib script` writes.
+//! Links the archive that `tools/build script` writes.
 use std::path::PathBuf;
 
 fn main() {

@@ -150,6 +150,7 @@ impl DateTime {
     }
 
     // The time `seconds` after 2000-01-01T00:00:00, none past 2199-12-31T23:59:59.
+    #[tactic(auto, using(crate::proofs::Laws::seconds_refused))]
     pub fn from_seconds_since_2000(seconds: u64) -> FromSecondsResult
         ensures { from_seconds_answer result ≡ and_then (checked_seconds seconds) (accepted (time_of seconds)) }
     {

@@ -30,8 +30,7 @@ const REFUSAL: u64 = YEAR * 65_536;
 
 // The date of a number of seconds since 2000, as one number: year × 2^40 + month × 2^32 + day × 2^24 + hour × 2^16 +
 // minute × 2^8 + second. A refusal is its number times 2^56.
-#[unsafe(no_mangle)]
-pub extern "C" fn clock_date_from_seconds(seconds: u64) -> u64
+pub fn clock_date_from_seconds(seconds: u64) -> u64
     ensures { result ≡ host_date (and_then (checked_seconds seconds) (accepted (time_of seconds))) }
 {
     let answer = DateTime::from_seconds_since_2000(seconds);
@@ -42,8 +41,7 @@ pub extern "C" fn clock_date_from_seconds(seconds: u64) -> u64
 }
 
 // The seconds since 2000 of a date. A refusal is its number times 2^56.
-#[unsafe(no_mangle)]
-pub extern "C" fn clock_seconds_from_date(
+pub fn clock_seconds_from_date(
     year: u16,
     month: u8,
     day: u8,

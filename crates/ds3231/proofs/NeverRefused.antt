@@ -41,7 +41,7 @@ asked c a e = ap (λ (x : Bool). and_then (if x then accepted tt else refused 10
 
 -- the shown seconds of a chip: the check accepts them, `from_seconds_since_2000` gives the date by its contract, and `now` answers that date
 pub record Converted (c : Ds3231) (t : ℕ) : Type 0 where
-  pub is_accepted_lem : checked_seconds (seconds_at c.timing.clock t) ≡ accepted tt
+  pub is_accepted : checked_seconds (seconds_at c.timing.clock t) ≡ accepted tt
   pub gives_date : (r : FromSecondsResult.FromSecondsResult)
       → from_seconds_answer r ≡ and_then (checked_seconds (seconds_at c.timing.clock t)) (accepted (time_of (seconds_at c.timing.clock t)))
       → r ≡ FromSecondsResult.TheVariants.Ok (shown_time c t)
@@ -52,7 +52,7 @@ conversion_never_refused c e t =
     let s = seconds_at c.timing.clock t in
     let a = seconds_accepted s (seconds_in c.timing.clock t) in
     record {
-      is_accepted_lem = a;
+      is_accepted = a;
       gives_date = λ r h. from_seconds_lossless r _ (h ∙ ap (λ (v : Numbered (Unit {0})). and_then v (accepted (time_of s))) a);
       is_shown = asked c (accepted (shown_time c t)) e;
     }

@@ -231,8 +231,8 @@ unfolding time_bytes
 seven_bytes t weekday twelve = refl
 
 -- the field and the flag of a time at a register
-abbrev pub field_at_lem : DateTime → ℕ → ℕ → ℕ
-field_at_lem t weekday r = get_or (t.second ∷ t.minute ∷ t.hour ∷ weekday ∷ t.day ∷ t.month ∷ t.year % 100 ∷ []) r 0
+abbrev pub field_at : DateTime → ℕ → ℕ → ℕ
+field_at t weekday r = get_or (t.second ∷ t.minute ∷ t.hour ∷ weekday ∷ t.day ∷ t.month ∷ t.year % 100 ∷ []) r 0
 
 abbrev pub flag_at : DateTime → Bool → ℕ → Bool
 flag_at t twelve r =
@@ -247,25 +247,25 @@ flag_at_lem t twelve r =
 
 -- the bytes of a time in range and a weekday 1 to 7
 module _ (t : DateTime) (weekday : ℕ) (twelve : Bool) (v : InRange t) (low : 1 ≤ weekday) (high : weekday ≤ 7) where
-  field_at : (r : ℕ) → r ≤ 6 → in_field r (field_at_lem t weekday r) ≡ true
+  field_at_lem : (r : ℕ) → r ≤ 6 → in_field r (field_at t weekday r) ≡ true
   unfolding in_field
-  field_at r h =
+  field_at_lem r h =
       let d = month_bounds t.year t.month in
-      each_at (λ (k : ℕ). in_field k (field_at_lem t weekday k) ≡ true) 7
+      each_at (λ (k : ℕ). in_field k (field_at t weekday k) ≡ true) 7
       (le-leb _ _ v.second_to, (le-leb _ _ v.minute_to, (le-leb _ _ v.hour_to, (from_to 1 7 weekday low high, (from_to 1 31 t.day v.date.day_from (omega arith), (from_to 1 12 t.month v.date.month_from v.date.month_to, (le-leb (t.year % 100) 99 (omega arith), tt)))))))
       r (omega arith)
 
-  byte_at : (r : ℕ) → r ≤ 6 → get_or (time_bytes t weekday twelve) r 0 ≡ field_byte r (field_at_lem t weekday r) (flag_at t twelve r)
+  byte_at : (r : ℕ) → r ≤ 6 → get_or (time_bytes t weekday twelve) r 0 ≡ field_byte r (field_at t weekday r) (flag_at t twelve r)
   unfolding time_bytes
   byte_at r h =
-      each_at (λ (k : ℕ). get_or (time_bytes t weekday twelve) k 0 ≡ field_byte k (field_at_lem t weekday k) (flag_at t twelve k)) 7
+      each_at (λ (k : ℕ). get_or (time_bytes t weekday twelve) k 0 ≡ field_byte k (field_at t weekday k) (flag_at t twelve k)) 7
       (refl, (refl, (refl, (refl, (refl, (refl, (refl, tt)))))))
       r (omega arith)
 
   -- each says its register's field
-  pub time_byte_means : (r : ℕ) → r ≤ 6 → meaning r (get_or (time_bytes t weekday twelve) r 0) ≡ sets r (field_at_lem t weekday r) (flag_at t twelve r)
-  time_byte_means r h = ap (meaning r) (byte_at r h) ∙ byte_of_field r _ _ (field_at r h) (flag_at_lem t twelve r)
+  pub time_byte_means : (r : ℕ) → r ≤ 6 → meaning r (get_or (time_bytes t weekday twelve) r 0) ≡ sets r (field_at t weekday r) (flag_at t twelve r)
+  time_byte_means r h = ap (meaning r) (byte_at r h) ∙ byte_of_field r _ _ (field_at_lem r h) (flag_at_lem t twelve r)
 
   -- and is below 256
   pub time_byte_below : (r : ℕ) → r ≤ 6 → get_or (time_bytes t weekday twelve) r 0 < 256
-  time_byte_below r h = rw (byte_at r h) (byte_below r _ _ (field_at r h) (flag_at_lem t twelve r))
+  time_byte_below r h = rw (byte_at r h) (byte_below r _ _ (field_at_lem r h) (flag_at_lem t twelve r))

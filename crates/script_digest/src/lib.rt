@@ -13,8 +13,7 @@ use script::run_from_power_on;
 
 // Runs a script as `clock_script_run` does. The number is for tools/bench alone, which only needs every field of the chip
 // and of the store to be read: no contract fixes it.
-#[unsafe(no_mangle)]
-pub extern "C" fn clock_script_digest(script: &[u8], answers: &mut [u8]) -> u64
+pub fn clock_script_digest(script: &[u8], answers: &mut [u8]) -> u64
     ensures { answers.new ≡ unless (checked_run script.now (length answers.old)) (answers_to script.now clockrun_held (records_in script.now)) answers.old }
 {
     let ran = run_from_power_on(script, answers);

@@ -16,9 +16,6 @@ loop-i-init c = begins _ _ _ _ c.requires refl
 pub bus_event-requires : goal.bus_event-requires
 bus_event-requires c = omega arith
 
-pub bounds-answers-i : goal.bounds-answers-i
-bounds-answers-i c = omega arith
-
 pub offset_bounds-records-slot : goal.offset_bounds-records-slot
 offset_bounds-records-slot c = record { fits = omega arith }
 

@@ -1,101 +1,74 @@
 // Input and output, whole: calls of `read` and `write` until nothing is left to move, or until one moves nothing.
-// To read it: `specs/Transfers.antt` has where a transfer may stop. The clauses `bytes` say which bytes were moved, for a
+// To read it: `specs/Transfers.antt` has how many bytes were moved. The clauses `bytes` say which bytes were moved, for a
 // reader or a writer whose bytes are known, as one over memory; no contract can say which bytes the system moves.
 #![tactic(auto)]
 
-ghost use Rattle.std.specs.Prelude.{◌≡◌, ◌<◌, ◌≤◌, ◌-◌, length, take, drop, pos};
+ghost use Rattle.std.specs.Prelude.{◌≡◌, ◌<◌, ◌≤◌, length, take, IfOk, IfErr, MatchResult};
 ghost use Rattle.std.specs.Io.KnownBytes.{Appends, Consumes, IsAtEnd};
-ghost use Rattle.streams.specs.Transfers.{bytes_moved, count_of, EndsWith, Moved, Transferred};
+ghost use Rattle.streams.specs.Transfers.{bytes_read, bytes_written, written_before};
 
+use std::io;
 use std::io::{Read, Write};
 
-// What became of a slice that was to be read or written.
-#[derive(Clone, Copy)]
-pub enum Transfer {
-    // All of it was.
-    Whole,
-    // Its first `count` bytes were, and then a call answered 0, which is the end of an input, or −1, a failure.
-    Stopped { count: usize, answer: isize },
+// A read failed, after `count` bytes.
+#[derive(Clone, Copy, Debug)]
+pub struct ReadError {
+    pub count: usize,
+    pub error: io::Error,
 }
 
-// Reads until `input` is full, the reader ends or a read fails.
-pub fn read_input<R: Read>(reader: &mut R, input: &mut [u8]) -> Transfer
-    ensures transferred { Transferred (length input.old) result }
-    ensures bytes { Consumes (R.remaining reader.old) (R.remaining reader.new) (take (count_of (length input.old) result) input.new) }
-    ensures end { EndsWith result (IsAtEnd (R.remaining reader.new)) }
+// Why not all was written, and how many bytes were.
+#[derive(Clone, Copy, Debug)]
+pub enum WriteError {
+    // A write failed.
+    Failed { count: usize, error: io::Error },
+    // A write took no byte.
+    Zero { count: usize },
+}
+
+// Reads until `input` is full or the reader ends, and answers how many bytes stand at the start of `input`: fewer than it
+// holds only at the reader's end.
+#[tactic(auto, using(crate::proofs::Moving::consumes_on))]
+pub fn read_input<R: Read>(reader: &mut R, input: &mut [u8]) -> Result<usize, ReadError>
+    ensures transferred { MatchResult result (λ n. n ≤ length input.old) (λ e. e.count < length input.old) }
+    ensures bytes { Consumes (R.remaining reader.old) (R.remaining reader.new) (take (bytes_read result) input.new) }
+    ensures end { IfOk result (λ n. n < length input.old → IsAtEnd (R.remaining reader.new)) }
 {
     let mut count = 0;
     while count < input.len() {
-        let answer = read_behind(reader, input, count);
-        let more = bytes_moved(answer);
-        if more == 0 {
-            return Transfer::Stopped { count, answer };
+        match reader.read(&mut input[count..]) {
+            Ok(0) => return Ok(count),
+            Ok(more) => count += more,
+            Err(error) => return Err(ReadError { count, error }),
         }
-        count += more;
     }
-    Transfer::Whole
+    Ok(count)
 }
 
-// Reads as `read_input` does, and answers how many bytes stand at the start of `input`.
+// Reads as `read_input` does, and answers how many bytes stand at the start of `input`, after a failure too.
 pub fn read_full<R: Read>(reader: &mut R, input: &mut [u8]) -> usize
     ensures in_bounds { result ≤ length input.new }
     ensures bytes { Consumes (R.remaining reader.old) (R.remaining reader.new) (take result input.new) }
 {
     match read_input(reader, input) {
-        Transfer::Whole => input.len(),
-        Transfer::Stopped { count, .. } => count,
+        Ok(count) => count,
+        Err(error) => error.count,
     }
 }
 
-// One read, behind the first `count` bytes, which stay.
-fn read_behind<R: Read>(reader: &mut R, input: &mut [u8], count: usize) -> isize
-    requires { count ≤ length input.old }
-    ensures moved { Moved (length input.old - count) result }
-    ensures input_unchanged { take count input.new ≡ take count input.old }
-    ensures bytes { Consumes (R.remaining reader.old) (R.remaining reader.new) (take (bytes_moved result) (drop count input.new)) }
-    ensures end { result ≡ pos 0 → count < length input.old → IsAtEnd (R.remaining reader.new) }
-{
-    match reader.read(&mut input[count..]) {
-        Ok(more) => more as isize,
-        Err(_) => -1,
-    }
-}
-
-// Writes until all of `output` is written or a write moves nothing.
-pub fn write_output<W: Write>(writer: &mut W, output: &[u8]) -> Transfer
-    ensures transferred { Transferred (length output.now) result }
-    ensures bytes { Appends (W.contents writer.old) (W.contents writer.new) (take (count_of (length output.now) result) output.now) }
+// Writes all of `output`.
+#[tactic(auto, using(crate::proofs::Moving::appends_on))]
+pub fn write_output<W: Write>(writer: &mut W, output: &[u8]) -> Result<(), WriteError>
+    ensures transferred { IfErr result (λ e. written_before e < length output.now) }
+    ensures bytes { Appends (W.contents writer.old) (W.contents writer.new) (take (bytes_written (length output.now) result) output.now) }
 {
     let mut count = 0;
     while count < output.len() {
-        let answer = write_behind(writer, output, count);
-        let written = bytes_moved(answer);
-        if written == 0 {
-            return Transfer::Stopped { count, answer };
+        match writer.write(&output[count..]) {
+            Ok(0) => return Err(WriteError::Zero { count }),
+            Ok(written) => count += written,
+            Err(error) => return Err(WriteError::Failed { count, error }),
         }
-        count += written;
     }
-    Transfer::Whole
-}
-
-// One write, of what stands behind the first `count` bytes.
-fn write_behind<W: Write>(writer: &mut W, output: &[u8], count: usize) -> isize
-    requires { count ≤ length output.now }
-    ensures moved { Moved (length output.now - count) result }
-    ensures bytes { Appends (W.contents writer.old) (W.contents writer.new) (take (bytes_moved result) (drop count output.now)) }
-{
-    match writer.write(&output[count..]) {
-        Ok(written) => written as isize,
-        Err(_) => -1,
-    }
-}
-
-// How many bytes a call moved, by its answer.
-fn bytes_moved(answer: isize) -> usize
-    ensures { result ≡ bytes_moved answer }
-{
-    if answer < 0 {
-        return 0;
-    }
-    answer as usize
+    Ok(())
 }

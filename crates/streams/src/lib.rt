@@ -1,6 +1,7 @@
 // Input and output, whole: calls of `read` and `write` until nothing is left to move, or until one moves nothing.
 // To read it: `specs/Transfers.antt` has how many bytes were moved. The clauses `bytes` say which bytes were moved, for a
 // reader or a writer whose bytes are known, as one over memory; no contract can say which bytes the system moves.
+// A loop that takes the step as a closure is as long as both loops here, and needs a contract on chains of calls.
 #![tactic(auto)]
 
 ghost use Rattle.std.specs.Prelude.{◌≡◌, ◌<◌, ◌≤◌, length, take, IfOk, IfErr, MatchResult};
@@ -9,20 +10,24 @@ ghost use Rattle.streams.specs.Transfers.{bytes_read, bytes_written, written_bef
 
 use std::io;
 use std::io::{Read, Write};
+use thiserror::Error;
 
 // A read failed, after `count` bytes.
-#[derive(Clone, Copy, Debug)]
+#[derive(Debug, Drop, Error)]
+#[error("reading failed after {count} bytes: {error}")]
 pub struct ReadError {
     pub count: usize,
     pub error: io::Error,
 }
 
 // Why not all was written, and how many bytes were.
-#[derive(Clone, Copy, Debug)]
+#[derive(Debug, Drop, Error)]
 pub enum WriteError {
     // A write failed.
+    #[error("writing failed after {count} bytes: {error}")]
     Failed { count: usize, error: io::Error },
     // A write took no byte.
+    #[error("writing ended after {count} bytes")]
     Zero { count: usize },
 }
 

@@ -22,6 +22,3 @@ pub record AppendedIn (room : ℕ) (text out : List ℕ) (at : ℕ) (out' : List
 abbrev pub columns_text : Line → List ℕ
 columns_text l = column_text l.register ++ comma ++ column_text l.byte
 
--- the record that a refusal names, if it names one
-abbrev pub record_of : Bool → ℕ → List ℕ
-record_of named i = if named then (i ∷ []) else []

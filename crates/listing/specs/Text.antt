@@ -1,6 +1,6 @@
 -- The text that `clockrun` prints, byte by byte: document 01, 'Script answers'. Assumes nothing.
 use Rattle.computed.specs.Prelude.{ℕ, zero, suc, List, [], ltb, eqb}
-use Rattle.std.specs.Prelude.{◌+◌, ◌/◌, ◌%◌, ◌∷◌, ◌++◌, if◌then◌else◌}
+use Rattle.std.specs.Prelude.{◌+◌, ◌/◌, ◌%◌, ◌∷◌, ◌++◌, if◌then◌else◌, flat_map}
 use Rattle.diagnostics.specs.Reports.{Word, UNDEFINED, READONLY, NOREGISTER, NOTMODELLED, Column, none, number, Line, line_of}
 use Rattle.diagnostics.specs.declared.I2cDiagnostic.{I2cDiagnostic}
 
@@ -81,8 +81,7 @@ abbrev pub diagnostic_line : I2cDiagnostic → List ℕ
 diagnostic_line d = diagnostic_text d.at (line_of d.kind)
 
 abbrev pub diagnostic_lines : List I2cDiagnostic → List ℕ
-diagnostic_lines [] = []
-diagnostic_lines (d ∷ ds) = diagnostic_line d ++ diagnostic_lines ds
+diagnostic_lines ds = flat_map diagnostic_line ds
 
 -- 'Script answers': `dropped,0`
 abbrev pub dropped_line : ℕ → List ℕ

@@ -1,11 +1,11 @@
 -- Text appended to a slice: written there, one text after another, and a text where there is room for it.
 -- Assumes nothing.
-use Rattle.std.proofs.Common.{◌≡◌, ℕ, ◌+◌, ◌≤◌, Bool, true, false, leb, List, [], ◌++◌, length, refl, sym, ap, ◌∙◌, arith, add_assoc, length-append}
+use Rattle.std.proofs.Common.{◌≡◌, ℕ, ◌+◌, ◌≤◌, List, [], ◌++◌, length, refl, sym, ap, ◌∙◌, arith, length-append}
 use Rattle.std.proofs.Math.Seq.{paste, paste-zero, take-length}
 use Rattle.std.proofs.lemmas.Slice.{put_mid-paste}
 use Rattle.std.proofs.lemmas.List.Edits.{paste-paste}
-use Rattle.std.specs.Prelude.{if◌then◌else◌}
-use borrow.Author.Tests.{le-leb, leb-true}
+use Rattle.std.proofs.lemmas.Bool.Decides.{nat_tests}
+use borrow.Author.Tests.{le-leb}
 use borrow.Rule.Slice.PartMut.{put_mid}
 use Rattle.listing.specs.Appended.{appended, Appended, AppendedIn}
 
@@ -52,8 +52,4 @@ fitting {room} {at} {next} {text} {out} h a = let e = le-leb (at + room) (length
 
 -- a text that is no longer than its room ends within the slice
 pub ends_within : {room at next : ℕ} {text out out' : List ℕ} → length text ≤ room → at ≤ length out → AppendedIn room text out at out' next → (at ≤ next) × (next ≤ length out)
-ends_within {room} {at} {next} {text} {out} h w a = by (leb (at + room) (length out)) refl a.next
-  where
-    by : (b : Bool) → leb (at + room) (length out) ≡ b → next ≡ (if b then at + length text else at) → (at ≤ next) × (next ≤ length out)
-    by true e n = let l = leb-true (at + room) (length out) e in (omega arith, omega arith)
-    by false e n = (omega arith, omega arith)
+ends_within h w a = let n = a.next in (grind (arith, nat_tests), grind (arith, nat_tests))

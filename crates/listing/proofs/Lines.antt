@@ -1,8 +1,8 @@
 -- How long the words and the lines are: no line has more than 48 bytes.
 -- Assumes nothing.
-use Rattle.std.proofs.Common.{◌≡◌, ℕ, ◌+◌, ◌*◌, ◌≤◌, ◌<◌, min, Bool, true, false, eqb, List, [], ◌∷◌, ◌++◌, length, take, get_or, refl, sym, ap, ◌∙◌, arith, append-nil, append_assoc, length-append, length-take}
-use Rattle.std.specs.Prelude.{if◌then◌else◌}
-use Rattle.diagnostics.specs.Reports.{Column, none, number, Line, line_of}
+use Rattle.std.proofs.Common.{◌≡◌, ℕ, ◌+◌, ◌*◌, ◌≤◌, ◌<◌, min, List, [], ◌∷◌, length, take, get_or, refl, ap, ◌∙◌, arith, length-append, length-take}
+use Rattle.std.proofs.lemmas.Bool.Decides.{nat_tests}
+use Rattle.diagnostics.specs.Reports.{Column, none, number, line_of}
 use Rattle.diagnostics.specs.declared.I2cDiagnostic.{I2cDiagnostic}
 use Rattle.diagnostics.specs.declared.I2cDiagnosticKind.{I2cDiagnosticKind}
 use Rattle.diagnostics.specs.declared.I2cDiagnosticKind.TheVariants.{NotModelled, ReadOnly, NoSuchRegister, Undefined}
@@ -16,17 +16,7 @@ use Rattle.std.proofs.lemmas.List.{take_more, flat_map_more}
 
 pub event_word_length : (kind : ℕ) → length (event_word kind) ≤ 5
 unfolding event_word
-event_word_length kind = by (eqb kind 0) (eqb kind 1) (eqb kind 2)
-  where
-    by : (a b c : Bool) → length {A = ℕ} (
-        if a then (83 ∷ 84 ∷ 65 ∷ 82 ∷ 84 ∷ [])
-        else if b then (87 ∷ 82 ∷ 73 ∷ 84 ∷ 69 ∷ [])
-        else if c then (82 ∷ 69 ∷ 65 ∷ 68 ∷ [])
-        else (83 ∷ 84 ∷ 79 ∷ 80 ∷ [])) ≤ 5
-    by true b c = omega arith
-    by false true c = omega arith
-    by false false true = omega arith
-    by false false false = omega arith
+event_word_length kind = grind (arith, nat_tests)
 
 pub report_word_length : (kind : I2cDiagnosticKind) → length (word_text (line_of kind).word) ≤ 11
 report_word_length (NotModelled b) = omega arith

@@ -1,6 +1,6 @@
 -- Need not be believed: what appending text to a lent slice of bytes leaves and answers, the promises of this crate's functions. `listing` of script_listing/src/lib.rt consumes them, and promises an equation with `listing_of`. Assumes nothing.
-use Rattle.computed.specs.Prelude.{ℕ, Bool, List, [], leb, length, take, drop}
-use Rattle.std.specs.Prelude.{◌+◌, ◌∷◌, ◌++◌, ◌≡◌, if◌then◌else◌}
+use Rattle.computed.specs.Prelude.{ℕ, List, leb, length, take, drop}
+use Rattle.std.specs.Prelude.{◌+◌, ◌++◌, ◌≡◌, if◌then◌else◌}
 use Rattle.diagnostics.specs.Reports.{Line}
 use Rattle.listing.specs.Text.{comma, column_text}
 
@@ -21,4 +21,3 @@ pub record AppendedIn (room : ℕ) (text out : List ℕ) (at : ℕ) (out' : List
 -- a report's two columns
 abbrev pub columns_text : Line → List ℕ
 columns_text l = column_text l.register ++ comma ++ column_text l.byte
-

@@ -1,6 +1,6 @@
-// The pieces of a line, and what puts them into one. A line is made as a text of its own and then copied, so that its length
-// is bounded by its type: a struct with the lent slice and a position would hold a `&mut`, and each method would have to say
-// that it keeps it; and through `impl Display` and `write!` a line could fail, since no contract says when printing succeeds.
+// The parts of a line, pushed to a text of its own, whose type bounds its length; a line that is whole is copied to the lent
+// slice. A cursor over that slice would hold a `&mut`, and each method would owe a clause that it keeps the reference; and
+// `write!` answers an error that no contract rules out.
 ghost use Rattle.std.specs.Prelude.{◌+◌, ◌≤◌, ◌<◌, [], ◌∷◌, ◌++◌, ◌≡◌, length, option_to_list};
 ghost use Rattle.arrayvec.specs.ArrayString.{array_string_len};
 ghost use Rattle.diagnostics.specs.Reports.{none, line_of};
@@ -72,7 +72,7 @@ pub(crate) fn report_word(kind: I2cDiagnosticKind) -> &'static str
 }
 
 // The columns of a report with a register and a byte.
-fn push_both_columns(line: &mut Line, register: u8, value: u8)
+fn push_both(line: &mut Line, register: u8, value: u8)
     requires { array_string_len line.old + 5 ≤ 48 }
     ensures bytes { line.new.bytes ≡ line.old.bytes ++ (hex_of register ++ comma ++ hex_of value) }
     ensures len { array_string_len line.new ≡ array_string_len line.old + 5 }
@@ -83,7 +83,7 @@ fn push_both_columns(line: &mut Line, register: u8, value: u8)
 }
 
 // The columns of a report with no byte.
-fn push_one_column(line: &mut Line, register: u8)
+fn push_one(line: &mut Line, register: u8)
     requires { array_string_len line.old + 5 ≤ 48 }
     ensures bytes { line.new.bytes ≡ line.old.bytes ++ (hex_of register ++ comma ++ column_text none) }
     ensures len { array_string_len line.new ≡ array_string_len line.old + 5 }
@@ -99,10 +99,10 @@ pub(crate) fn push_columns(line: &mut Line, kind: I2cDiagnosticKind)
     ensures len { array_string_len line.new ≡ array_string_len line.old + 5 }
 {
     match kind {
-        I2cDiagnosticKind::NotModelled { value } => push_both_columns(line, 0x0E, value),
+        I2cDiagnosticKind::NotModelled { value } => push_both(line, 0x0E, value),
         I2cDiagnosticKind::ReadOnly { register } | I2cDiagnosticKind::NoSuchRegister { register } =>
-            { push_one_column(line, register) }
-        I2cDiagnosticKind::Undefined { register, value } => push_both_columns(line, register, value),
+            { push_one(line, register) }
+        I2cDiagnosticKind::Undefined { register, value } => push_both(line, register, value),
     }
 }
 

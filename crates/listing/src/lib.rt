@@ -9,9 +9,7 @@ ghost use Rattle.std.specs.Prelude.{◌+◌, ◌*◌, ◌≤◌, min, ◌≡◌,
 ghost use Rattle.listing.specs.Text.{header as headerText, event_line, diagnostic_line, diagnostic_lines, dropped_line, refused_line};
 ghost use Rattle.listing.specs.Appended.{Appended, AppendedIn};
 
-use blocks::{
-    Line, event_word, push_columns, push_decimal, push_hex, push_record, report_word,
-};
+use blocks::{Line, event_word, push_columns, push_decimal, push_hex, push_record, report_word};
 use diagnostics::I2cDiagnostic;
 
 // A line has at most so many bytes.
@@ -28,24 +26,21 @@ pub fn header(out: &mut [u8], at: usize) -> usize
 pub fn event_line(out: &mut [u8], at: usize, instant: u64, kind: u8, value: u8, answer: u8) -> usize
     ensures { AppendedIn 48 (event_line instant kind value answer) out.old at out.new result }
 {
-    let line = event(instant, kind, value, answer);
-    append(out, at, line.as_str())
+    append(out, at, &event(instant, kind, value, answer))
 }
 
 // The line with the count of dropped reports.
 pub fn dropped_line(out: &mut [u8], at: usize, count: u64) -> usize
     ensures { AppendedIn 48 (dropped_line count) out.old at out.new result }
 {
-    let line = dropped(count);
-    append(out, at, line.as_str())
+    append(out, at, &dropped(count))
 }
 
 // The line of a refusal: its number, and the record that it is about, if there is one.
 pub fn refused_line(out: &mut [u8], at: usize, number: u8, record: Option<u64>) -> usize
     ensures { AppendedIn 48 (refused_line number (option_to_list «record»)) out.old at out.new result }
 {
-    let line = refused(number, record);
-    append(out, at, line.as_str())
+    append(out, at, &refused(number, record))
 }
 
 // The lines of the first `count` records, or of all of them, where there is room for so many lines.
@@ -72,13 +67,12 @@ fn reports(out: &mut [u8], at: usize, records: &[I2cDiagnostic]) -> usize
 {
     let mut next = at;
     for diagnostic in records {
-        let line = report(*diagnostic);
-        next = put(out, next, line.as_str());
+        next = put(out, next, &report(*diagnostic));
     }
     next
 }
 
-// Appends a line where any line has room.
+// Appends a line where a line of any length has room.
 fn append(out: &mut [u8], at: usize, line: &str) -> usize
     requires { length line.now ≤ 48 }
     ensures { AppendedIn 48 line.now out.old at out.new result }
@@ -96,7 +90,7 @@ fn has_room(len: usize, at: usize, room: usize) -> bool
     at <= len && room <= len - at
 }
 
-// Writes a text from `at` on.
+// Writes a text from `at` on, and answers the position behind it.
 #[tactic(auto, using(crate::proofs::Appending::written))]
 fn put(out: &mut [u8], at: usize, text: &str) -> usize
     requires { at + length text.now ≤ length out.old }
@@ -107,6 +101,7 @@ fn put(out: &mut [u8], at: usize, text: &str) -> usize
     end
 }
 
+// An event's line.
 #[tactic(auto, using(crate::proofs::Lines::event_word_length))]
 fn event(instant: u64, kind: u8, value: u8, answer: u8) -> Line
     ensures { result.bytes ≡ event_line instant kind value answer }
@@ -123,6 +118,7 @@ fn event(instant: u64, kind: u8, value: u8, answer: u8) -> Line
     line
 }
 
+// A report's line.
 #[tactic(auto, using(crate::proofs::Lines::report_word_length))]
 fn report(diagnostic: I2cDiagnostic) -> Line
     ensures { result.bytes ≡ diagnostic_line diagnostic }
@@ -139,6 +135,7 @@ fn report(diagnostic: I2cDiagnostic) -> Line
     line
 }
 
+// The dropped count's line.
 fn dropped(count: u64) -> Line
     ensures { result.bytes ≡ dropped_line count }
 {
@@ -149,6 +146,7 @@ fn dropped(count: u64) -> Line
     line
 }
 
+// A refusal's line.
 #[tactic(auto, using(crate::proofs::Digits::byte_length))]
 fn refused(number: u8, record: Option<u64>) -> Line
     ensures { result.bytes ≡ refused_line number (option_to_list «record») }

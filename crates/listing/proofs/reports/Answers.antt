@@ -10,4 +10,4 @@ put-next-requires c =
 
 pub loop-diagnostic-preserved : goal.loop-diagnostic-preserved
 loop-diagnostic-preserved c =
-    line_more _ _ _ c.loop-diagnostic-test.true (c.as_str.ensures.value ∙ c.report-line.ensures) (omega arith) c.loop-diagnostic.invariant c.put-next.ensures
+    line_more _ _ _ c.loop-diagnostic-test.true (c.deref.ensures.0 ∙ c.report.ensures) (omega arith) c.loop-diagnostic.invariant c.put-next.ensures

@@ -8,12 +8,13 @@ use lib.Dec.{eqb}
 use lib.ListN.{length, take, replicate}
 use lib.Seq.{length-take-le}
 use borrow.Author.Tests.{eq-eqb}
-use Rattle.std.specs.Prelude.{if◌then◌else◌}
+use Rattle.std.specs.Prelude.{if◌then◌else◌, option_to_list}
+use Rattle.std.specs.Bool.{then_some}
 use Rattle.diagnostics.specs.declared.I2cDiagnostic.{I2cDiagnostic}
 use Rattle.refusals.specs.Numbered.{Numbered, accepted, refused, and_then}
 use Rattle.refusals.proofs.Checks.{accepted_leaves}
 use Rattle.ds3231.specs.declared.Ds3231.{Ds3231}
-use Rattle.listing.specs.Appended.{Appended, record_of}
+use Rattle.listing.specs.Appended.{Appended}
 use Rattle.listing.specs.Text.{refused_line}
 use Rattle.script.specs.ByValue.{refusal_of}
 use Rattle.script.specs.Records.{records_in, checked_length, checked_from, checked_script}
@@ -58,11 +59,11 @@ module _ {s a : List ℕ} {r : RunAnswer} {c : Ds3231} {st : List I2cDiagnostic}
 
 -- the listing of a script that is refused is the refusal's line
 pub refused_as : (s : List ℕ) {out out' : List ℕ} {next : ℕ} (v : Numbered (Unit {0})) (r : Refusal) → r ≡ refusal_of v → (v ≡ accepted tt → ⊥) → v ≡ checked_script s
-    → Appended (refused_line r.number (record_of r.has_record r.«record»)) out 0 out' next → Appended (listing_of s) out 0 out' next
+    → Appended (refused_line r.number (option_to_list (then_some r.has_record r.«record»))) out 0 out' next → Appended (listing_of s) out 0 out' next
 refused_as s {out} {out'} {next} v r e f q a =
-    subst (λ (t : List ℕ). Appended t out 0 out' next) (ap (λ (x : Refusal). refused_line x.number (record_of x.has_record x.«record»)) e ∙ by v f ∙ ap (λ (w : Numbered (Unit {0})). listing_by w s) q) a
+    subst (λ (t : List ℕ). Appended t out 0 out' next) (ap (λ (x : Refusal). refused_line x.number (option_to_list (then_some x.has_record x.«record»))) e ∙ by v f ∙ ap (λ (w : Numbered (Unit {0})). listing_by w s) q) a
   where
-    by : (w : Numbered (Unit {0})) → (w ≡ accepted tt → ⊥) → refused_line (refusal_of w).number (record_of (refusal_of w).has_record (refusal_of w).«record») ≡ listing_by w s
+    by : (w : Numbered (Unit {0})) → (w ≡ accepted tt → ⊥) → refused_line (refusal_of w).number (option_to_list (then_some (refusal_of w).has_record (refusal_of w).«record»)) ≡ listing_by w s
     by (accepted u) n = absurd (n refl)
     by (refused n []) m = refl
     by (refused n (i ∷ is)) m = refl

@@ -62,13 +62,8 @@ fn listed(script: &[u8], answers: &mut [u8], out: &mut [u8]) -> usize
         RunAnswer::Done => ran(script, answers, end, out),
         _ => {
             let refusal = run_refusal(answer);
-            refused_line(
-                out,
-                0,
-                refusal.number,
-                refusal.has_record,
-                refusal.record as u64,
-            )
+            let record = refusal.has_record.then_some(refusal.record as u64);
+            refused_line(out, 0, refusal.number, record)
         }
     }
 }

@@ -29,4 +29,4 @@ returns-in-Done c =
 pub returns-in_default : goal.returns-in_default
 returns-in_default c =
     refused_as c.args.script.now (run_numbered c.run_from_power_on-end.result.answer) _ c.run_refusal-refusal.ensures (not_accepted c.run_from_power_on-end.result.answer (λ e. c.in_default.not-Done e))
-    (answers_check c.requires.0 c.run_from_power_on-end.ensures) (fitting (omega arith) c.refused_line.ensures)
+    (answers_check c.requires.0 c.run_from_power_on-end.ensures) (fitting (omega arith) (rw c.then_some-record.ensures at c.refused_line.ensures))

@@ -2,14 +2,14 @@
 // An input that cannot be read, an output that cannot be written and an argument each get a line on standard error.
 #![tactic(auto)]
 
-mod noted;
+mod words;
 
-use noted::Noted;
 use script_listing::{INPUT, LISTING, input_listing, within};
 use std::env::FillError;
 use std::io;
 use std::rt::{Env, Stdout};
-use streams::{Transfer, read_input, write_output};
+use streams::{WriteError, read_input, write_output};
+use words::Words;
 
 fn main(rt: HostRuntime) {
     if has_argument(&rt) {
@@ -17,16 +17,9 @@ fn main(rt: HostRuntime) {
         return;
     }
     let mut input = [0u8; INPUT];
-    let mut reader = Noted::new(rt.stdin());
-    match read_input(&mut reader, &mut input) {
-        Transfer::Whole => print(&rt, rt.stdout(), input, INPUT),
-        Transfer::Stopped { count, answer } => {
-            if answer < 0 {
-                fail(&rt, "standard input", reader.error);
-            } else {
-                print(&rt, rt.stdout(), input, count);
-            }
-        }
+    match read_input(&mut rt.stdin(), &mut input) {
+        Ok(n) => print(&rt, rt.stdout(), input, n),
+        Err(e) => fail(&rt, "standard input", e.error),
     }
 }
 
@@ -45,41 +38,24 @@ fn usage(rt: &impl Eprint) {
 }
 
 // Prints the listing of an input by the first `n` bytes that were read of it.
-fn print(rt: &(impl Eprint + AllocGlobal), output: Stdout, input: [u8; INPUT], n: usize) {
+fn print(rt: &impl Eprint, mut output: Stdout, input: [u8; INPUT], n: usize) {
     let mut out = [0u8; LISTING];
     let length = input_listing(input, n, &mut out);
     let length = within(length, &out);
-    let mut writer = Noted::new(output);
-    match write_output(&mut writer, &out[..length]) {
-        Transfer::Whole => {}
-        Transfer::Stopped { .. } => fail(rt, "standard output", writer.error),
+    match write_output(&mut output, &out[..length]) {
+        Ok(()) => {}
+        Err(WriteError::Failed { error, .. }) => fail(rt, "standard output", error),
+        Err(WriteError::Zero { .. }) => ended(rt, "standard output"),
     }
 }
 
 // What failed, and the system's words. What standard error does not take is lost.
-fn fail(rt: &(impl Eprint + AllocGlobal), what: &str, error: Option<io::Error>) {
-    let _ = complain(rt, what, error);
+fn fail(rt: &impl Eprint, what: &str, error: io::Error) {
+    let words = Words(error);
+    let _ = eprintln!(rt; "{what}: {words}");
 }
 
-fn complain(
-    rt: &(impl Eprint + AllocGlobal),
-    what: &str,
-    error: Option<io::Error>,
-) -> io::Result<()> {
-    match error {
-        Some(error) => {
-            let text = format!(in rt.alloc(); "{error}")?;
-            let words = words(text.as_str());
-            eprintln!(rt; "{what}: {words}")
-        }
-        None => eprintln!(rt; "{what}"),
-    }
-}
-
-// The text of an error without the number that std puts behind the system's words.
-fn words(text: &str) -> &str {
-    match text.split_once(" (os error ") {
-        Some((words, _)) => words,
-        None => text,
-    }
+// What took no byte, for which the system has no words. What standard error does not take is lost.
+fn ended(rt: &impl Eprint, what: &str) {
+    let _ = eprintln!(rt; "{what}");
 }

@@ -13,13 +13,14 @@ use ds3231::{Ds3231, Ds3231Config, Reply};
 use ds3231_bus::BusAnswer;
 use ds3231_chip::{dropped_diagnostics, now, power_on, register};
 use script::{RunOutcome, run_values};
-use streams::{Transfer, read_input};
+use streams::read_full;
 
 fn main(rt: HostRuntime) {
     let mut script = [0u8; 80];
-    match read_input(&mut rt.stdin(), &mut script) {
-        Transfer::Whole => panel(&rt, script),
-        Transfer::Stopped { .. } => text::no_script(&rt),
+    if read_full(&mut rt.stdin(), &mut script) < script.len() {
+        text::no_script(&rt);
+    } else {
+        panel(&rt, script);
     }
 }
 

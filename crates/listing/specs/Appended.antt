@@ -1,7 +1,7 @@
 -- Need not be believed: what appending text to a lent slice of bytes leaves and answers, the promises of this crate's functions. `listing` of script_listing/src/lib.rt consumes them, and promises an equation with `listing_of`. Assumes nothing.
 use Rattle.computed.specs.Prelude.{ℕ, List, leb, length, take, drop}
-use Rattle.std.specs.Prelude.{◌+◌, ◌++◌, ◌≡◌, if◌then◌else◌}
-use Rattle.diagnostics.specs.Reports.{Line}
+use Rattle.std.specs.Prelude.{◌+◌, ◌++◌, ◌≡◌, if◌then◌else◌, Option, Some, None}
+use Rattle.diagnostics.specs.Reports.{Line, Column, none, number}
 use Rattle.listing.specs.Text.{comma, column_text}
 
 -- the slice with the text from the position on
@@ -21,3 +21,8 @@ pub record AppendedIn (room : ℕ) (text out : List ℕ) (at : ℕ) (out' : List
 -- a report's two columns
 abbrev pub columns_text : Line → List ℕ
 columns_text l = column_text l.register ++ comma ++ column_text l.byte
+
+-- the column of a byte, or of none
+abbrev pub byte_column : Option ℕ → Column
+byte_column (Some b) = number b
+byte_column None = none

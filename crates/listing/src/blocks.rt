@@ -1,15 +1,14 @@
 // The parts of a line, pushed to a text of its own, whose type bounds its length; a line that is whole is copied to the lent
-// slice. A cursor over that slice would hold a `&mut`, and each method would owe a clause that it keeps the reference; and
-// `write!` answers an error that no contract rules out.
+// slice. It is not printed by `write!`, which answers an error that no contract rules out.
 ghost use Rattle.std.specs.Prelude.{◌+◌, ◌≤◌, ◌<◌, [], ◌∷◌, ◌++◌, ◌≡◌, length, option_to_list};
 ghost use Rattle.arrayvec.specs.ArrayString.{array_string_len};
-ghost use Rattle.diagnostics.specs.Reports.{none, line_of};
+ghost use Rattle.diagnostics.specs.Reports.{line_of};
 ghost use Rattle.listing.specs.Text.{decimal_of, hex_digit, hex_of, comma, event_word, word_text, column_text, record_text};
-ghost use Rattle.listing.specs.Appended.{columns_text};
+ghost use Rattle.listing.specs.Appended.{byte_column, columns_text};
 
 use crate::LINE;
 use arrayvec::ArrayString;
-use diagnostics::I2cDiagnosticKind;
+use diagnostics::I2cDiagnosticKind as Kind;
 use itoa::Buffer;
 
 // A line, or what there is of it so far.
@@ -18,7 +17,7 @@ pub(crate) type Line = ArrayString<LINE>;
 // A number's decimal digits, with no zero in front.
 #[tactic(auto, using(crate::proofs::Digits::decimal_is))]
 pub(crate) fn push_decimal(line: &mut Line, n: u64)
-    requires { array_string_len line.old + 20 ≤ 48 }
+    requires { array_string_len line.old + 20 ≤ LINE }
     ensures bytes { line.new.bytes ≡ line.old.bytes ++ decimal_of n }
     ensures len { array_string_len line.new ≤ array_string_len line.old + 20 }
 {
@@ -38,7 +37,7 @@ fn hex_digit(d: u8) -> char
 // Two hexadecimal digits of a byte.
 #[tactic(auto, using(std::proofs::lemmas::Str::encode_ascii))]
 pub(crate) fn push_hex(line: &mut Line, b: u8)
-    requires { array_string_len line.old + 2 ≤ 48 }
+    requires { array_string_len line.old + 2 ≤ LINE }
     ensures bytes { line.new.bytes ≡ line.old.bytes ++ hex_of b }
     ensures len { array_string_len line.new ≡ array_string_len line.old + 2 }
 {
@@ -60,55 +59,49 @@ pub(crate) fn event_word(kind: u8) -> &'static str
 }
 
 // The word for a report's kind.
-pub(crate) fn report_word(kind: I2cDiagnosticKind) -> &'static str
+pub(crate) fn report_word(kind: Kind) -> &'static str
     ensures { result.now ≡ word_text (line_of kind).word }
 {
     match kind {
-        I2cDiagnosticKind::NotModelled { .. } => "NOTMODELLED",
-        I2cDiagnosticKind::ReadOnly { .. } => "READONLY",
-        I2cDiagnosticKind::NoSuchRegister { .. } => "NOREGISTER",
-        I2cDiagnosticKind::Undefined { .. } => "UNDEFINED",
+        Kind::NotModelled { .. } => "NOTMODELLED",
+        Kind::ReadOnly { .. } => "READONLY",
+        Kind::NoSuchRegister { .. } => "NOREGISTER",
+        Kind::Undefined { .. } => "UNDEFINED",
     }
 }
 
-// The columns of a report with a register and a byte.
-fn push_both(line: &mut Line, register: u8, value: u8)
-    requires { array_string_len line.old + 5 ≤ 48 }
-    ensures bytes { line.new.bytes ≡ line.old.bytes ++ (hex_of register ++ comma ++ hex_of value) }
+// A register's column, and that of a byte or of none.
+fn push_register(line: &mut Line, register: u8, value: Option<u8>)
+    requires { array_string_len line.old + 5 ≤ LINE }
+    ensures bytes { line.new.bytes ≡ line.old.bytes ++ (hex_of register ++ comma ++ column_text (byte_column value)) }
     ensures len { array_string_len line.new ≡ array_string_len line.old + 5 }
 {
     push_hex(line, register);
     line.push_str(",");
-    push_hex(line, value);
-}
-
-// The columns of a report with no byte.
-fn push_one(line: &mut Line, register: u8)
-    requires { array_string_len line.old + 5 ≤ 48 }
-    ensures bytes { line.new.bytes ≡ line.old.bytes ++ (hex_of register ++ comma ++ column_text none) }
-    ensures len { array_string_len line.new ≡ array_string_len line.old + 5 }
-{
-    push_hex(line, register);
-    line.push_str(",--");
+    match value {
+        Some(value) => push_hex(line, value),
+        None => line.push_str("--"),
+    }
 }
 
 // A report's columns: register and byte.
-pub(crate) fn push_columns(line: &mut Line, kind: I2cDiagnosticKind)
-    requires { array_string_len line.old + 5 ≤ 48 }
+pub(crate) fn push_columns(line: &mut Line, kind: Kind)
+    requires { array_string_len line.old + 5 ≤ LINE }
     ensures bytes { line.new.bytes ≡ line.old.bytes ++ columns_text (line_of kind) }
     ensures len { array_string_len line.new ≡ array_string_len line.old + 5 }
 {
     match kind {
-        I2cDiagnosticKind::NotModelled { value } => push_both(line, 0x0E, value),
-        I2cDiagnosticKind::ReadOnly { register } | I2cDiagnosticKind::NoSuchRegister { register } =>
-            { push_one(line, register) }
-        I2cDiagnosticKind::Undefined { register, value } => push_both(line, register, value),
+        Kind::NotModelled { value } => push_register(line, 0x0E, Some(value)),
+        Kind::ReadOnly { register } | Kind::NoSuchRegister { register } => {
+            push_register(line, register, None)
+        }
+        Kind::Undefined { register, value } => push_register(line, register, Some(value)),
     }
 }
 
 // The record that a refusal is about, or a dash.
 pub(crate) fn push_record(line: &mut Line, record: Option<u64>)
-    requires { array_string_len line.old + 20 ≤ 48 }
+    requires { array_string_len line.old + 20 ≤ LINE }
     ensures bytes { line.new.bytes ≡ line.old.bytes ++ record_text (option_to_list «record») }
     ensures len { array_string_len line.new ≤ array_string_len line.old + 20 }
 {

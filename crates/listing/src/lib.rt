@@ -1,6 +1,7 @@
 // The text that `clockrun` prints, line by line, appended to a lent slice of bytes.
 // To read it: `specs/Text.antt` has each line, byte by byte, and `specs/Appended.antt` what appending leaves in the slice. The
 // module `blocks` has the parts of a line: words, digits and columns.
+// Slice and position are two parameters: a cursor of both would hold a `&mut`, and each method owe a clause that it keeps it.
 #![tactic(auto)]
 
 mod blocks;
@@ -43,7 +44,8 @@ pub fn refused_line(out: &mut [u8], at: usize, number: u8, record: Option<u64>) 
     append(out, at, &refused(number, record))
 }
 
-// The lines of the first `count` records, or of all of them, where there is room for so many lines.
+// The lines of the first `count` records, or of all of them, where there is room for so many lines. Records and count are as a
+// run or a taking leaves them: a slice of the first `count` would ask callers to bound the count.
 pub fn diagnostic_lines(
     out: &mut [u8],
     at: usize,

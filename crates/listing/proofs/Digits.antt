@@ -4,7 +4,6 @@ use Rattle.std.proofs.Common.{◌≡◌, ℕ, zero, suc, ◌/◌, ◌^◌, ◌<�
 use Rattle.std.proofs.lemmas.Fmt.{decimal_from_appends, length-decimal-le}
 use Rattle.std.proofs.lemmas.Bool.Decides.{nat_tests}
 use Rattle.listing.specs.Text.{digits_in, decimal_of}
-use Prim.Native.Nat.{zero-le}
 
 pub decimal_is : (n : ℕ) → n < 2 ^ 64 → decimal_of n ≡ decimal n
 unfolding decimal_of
@@ -15,7 +14,7 @@ one_more : (places n : ℕ) → length (digits_in places (n / 10)) ≤ places �
 one_more places n h = grind (arith, nat_tests, length-append)
 
 few : (places n : ℕ) → length (digits_in places n) ≤ places
-few zero n = zero-le
+few zero n = omega arith
 few (suc places) n = one_more places n (few places (n / 10))
 
 pub decimal_length : (n : ℕ) → length (decimal_of n) ≤ 20

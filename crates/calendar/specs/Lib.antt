@@ -3,3 +3,4 @@ pub mod Dates
 pub mod Answers
 pub mod Formula
 pub mod Stated
+pub mod Text

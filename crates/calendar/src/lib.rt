@@ -1,11 +1,11 @@
 // Dates and times of the years 2000 to 2199, their seconds since 2000-01-01T00:00:00, and weekdays.
-// To read it: the contracts cite `gregorian`'s definitions at a `DateTime` (`specs/Dates.antt`) and number each answer as
+// To read it: the contracts cite `gregorian`'s definitions at a `DateTime` (`specs/Dates.antt`) and number each refusal as
 // document 01 does (`specs/Answers.antt`). `specs/Stated.antt` is what the crates above may name, and `proofs/Laws.antt` the
-// laws that they go by.
+// laws that they go by; `specs/Text.antt` has the text of a time.
 #![tactic(auto)]
 
-ghost use Rattle.std.specs.Prelude.{◌≡◌, ◌+◌, ◌-◌, ◌%◌, ◌<◌, ◌≤◌, ◌⊎◌, ltb};
-ghost use Rattle.refusals.specs.Numbered.{accepted, and_then};
+ghost use Rattle.std.specs.Prelude.{◌≡◌, ◌+◌, ◌-◌, ◌%◌, ◌<◌, ◌≤◌, ◌⊎◌, ltb, Some};
+ghost use Rattle.refusals.specs.Numbered.{accepted, and_then, answered, some_or};
 ghost use Rattle.gregorian.specs.Calendar.{leap, month_length, date_of_day};
 ghost use Rattle.gregorian.specs.DayNumbers.{day_number};
 ghost use Rattle.gregorian.specs.Times.{checked_seconds};
@@ -14,9 +14,13 @@ ghost use Rattle.gregorian.specs.Ranges.{ValidDate};
 ghost use Rattle.calendar.specs.Formula.{march_year, march_month};
 ghost use Rattle.calendar.specs.AsTime.{date_time};
 ghost use Rattle.calendar.specs.Dates.{InRange, checked, seconds_of, time_of, weekday_of, nearest};
-ghost use Rattle.calendar.specs.Answers.{validity_answer, new_answer, from_seconds_answer, seconds_answer, weekday_answer};
+ghost use Rattle.calendar.specs.Answers.{date_row};
+ghost use Rattle.calendar.specs.Text.{date_time_text};
 
 use gregorian::Date;
+use refusals::Refusal;
+use std::fmt;
+use thiserror::Error;
 
 const SECONDS_PER_MINUTE: u64 = 60;
 
@@ -40,7 +44,7 @@ const DAYS_PER_400_YEARS: u64 = 146_097;
 pub const WEEKDAY_OF_2000_OFFSET: u64 = 5;
 
 // A date and a time of day. The valid ones are those from 2000-01-01T00:00:00 to 2199-12-31T23:59:59.
-#[derive(Clone, Copy)]
+#[derive(Clone, Copy, Debug, PartialEq, Eq, PartialOrd, Ord, Hash)]
 pub struct DateTime {
     pub year: u16,
     pub month: u8,
@@ -50,50 +54,49 @@ pub struct DateTime {
     pub second: u8,
 }
 
+// `2026-01-01T00:00:00`.
+impl fmt::Display for DateTime {
+    ghost output = { λ t. Some (date_time_text t) };
+
+    fn fmt<W: fmt::Write>(&self, f: &mut fmt::Formatter<W>) -> fmt::Result {
+        write!(
+            f,
+            "{:04}-{:02}-{:02}T{:02}:{:02}:{:02}",
+            self.year, self.month, self.day, self.hour, self.minute, self.second
+        )
+    }
+}
+
 // The first field of a time that is out of its range.
-#[derive(Clone, Copy)]
+#[derive(Clone, Copy, Debug, PartialEq, Eq, Error)]
 pub enum DateTimeError {
+    #[error("the year {0} is outside the DS3231's range; give a year from 2000 to 2199, what its two-digit year and century bit hold")]
     Year(u16),
+    #[error("there is no month {0}; give a month from 1 to 12")]
     Month(u8),
+    #[error("{year}-{month:02} has no day {day}; give a day of that month")]
     Day { year: u16, month: u8, day: u8 },
+    #[error("there is no hour {0}; give an hour from 0 to 23")]
     Hour(u8),
+    #[error("there is no minute {0}; give a minute from 0 to 59")]
     Minute(u8),
+    #[error("there is no second {0}; give a second from 0 to 59 (the DS3231 has no leap second)")]
     Second(u8),
 }
 
-// What `validate` answers.
-#[derive(Clone, Copy)]
-pub enum Validity {
-    Valid,
-    Invalid(DateTimeError),
-}
+impl Refusal for DateTimeError {
+    ghost row = { date_row };
 
-// What `new` answers.
-#[derive(Clone, Copy)]
-pub enum NewResult {
-    Ok(DateTime),
-    Err(DateTimeError),
-}
-
-// What `from_seconds_since_2000` answers.
-#[derive(Clone, Copy)]
-pub enum FromSecondsResult {
-    Ok(DateTime),
-    OutOfRange,
-}
-
-// What `seconds_since_2000` answers.
-#[derive(Clone, Copy)]
-pub enum SecondsResult {
-    Ok(u64),
-    Err(DateTimeError),
-}
-
-// What `weekday` answers.
-#[derive(Clone, Copy)]
-pub enum WeekdayResult {
-    Ok(u8),
-    Err(DateTimeError),
+    fn number(&self) -> u8 {
+        match self {
+            DateTimeError::Year(_) => 1,
+            DateTimeError::Month(_) => 2,
+            DateTimeError::Day { .. } => 3,
+            DateTimeError::Hour(_) => 4,
+            DateTimeError::Minute(_) => 5,
+            DateTimeError::Second(_) => 6,
+        }
+    }
 }
 
 impl DateTime {
@@ -102,8 +105,15 @@ impl DateTime {
     pub const LAST_YEAR: u16 = 2199;
 
     // A valid time.
-    pub fn new(year: u16, month: u8, day: u8, hour: u8, minute: u8, second: u8) -> NewResult
-        ensures { new_answer result ≡ and_then (checked (date_time year month day hour minute second)) (accepted (date_time year month day hour minute second)) }
+    pub fn new(
+        year: u16,
+        month: u8,
+        day: u8,
+        hour: u8,
+        minute: u8,
+        second: u8,
+    ) -> Result<DateTime, DateTimeError>
+        ensures { answered date_row result ≡ and_then (checked (date_time year month day hour minute second)) (accepted (date_time year month day hour minute second)) }
     {
         let time = DateTime {
             year,
@@ -113,54 +123,52 @@ impl DateTime {
             minute,
             second,
         };
-        let validity = time.validate();
-        match validity {
-            Validity::Valid => NewResult::Ok(time),
-            Validity::Invalid(error) => NewResult::Err(error),
-        }
+        time.validate()?;
+        Ok(time)
     }
 
     // Whether every field is in its range; if not, the first that is not.
-    pub fn validate(self) -> Validity
-        ensures { validity_answer result ≡ checked self }
+    pub fn validate(self) -> Result<(), DateTimeError>
+        ensures { answered date_row result ≡ checked self }
     {
-        if self.year < DateTime::FIRST_YEAR || self.year > DateTime::LAST_YEAR {
-            return Validity::Invalid(DateTimeError::Year(self.year));
+        if !(DateTime::FIRST_YEAR..=DateTime::LAST_YEAR).contains(&self.year) {
+            return Err(DateTimeError::Year(self.year));
         }
-        if self.month < 1 || self.month > 12 {
-            return Validity::Invalid(DateTimeError::Month(self.month));
+        if !(1..=12).contains(&self.month) {
+            return Err(DateTimeError::Month(self.month));
         }
         if self.day == 0 || is_past_month(self.year, self.month, self.day) {
-            return Validity::Invalid(DateTimeError::Day {
+            return Err(DateTimeError::Day {
                 year: self.year,
                 month: self.month,
                 day: self.day,
             });
         }
         if self.hour > 23 {
-            return Validity::Invalid(DateTimeError::Hour(self.hour));
+            return Err(DateTimeError::Hour(self.hour));
         }
         if self.minute > 59 {
-            return Validity::Invalid(DateTimeError::Minute(self.minute));
+            return Err(DateTimeError::Minute(self.minute));
         }
         if self.second > 59 {
-            return Validity::Invalid(DateTimeError::Second(self.second));
+            return Err(DateTimeError::Second(self.second));
         }
-        Validity::Valid
+        Ok(())
     }
 
     // The time `seconds` after 2000-01-01T00:00:00, none past 2199-12-31T23:59:59.
     #[tactic(auto, using(crate::proofs::Laws::seconds_refused))]
-    pub fn from_seconds_since_2000(seconds: u64) -> FromSecondsResult
-        ensures { from_seconds_answer result ≡ and_then (checked_seconds seconds) (accepted (time_of seconds)) }
+    pub fn from_seconds_since_2000(seconds: u64) -> Option<DateTime>
+        ensures { some_or 8 result ≡ and_then (checked_seconds seconds) (accepted (time_of seconds)) }
     {
         if seconds >= SECONDS_IN_RANGE {
-            return FromSecondsResult::OutOfRange;
+            return None;
         }
-        FromSecondsResult::Ok(DateTime::from_wrapped_seconds(seconds))
+        Some(DateTime::from_wrapped_seconds(seconds))
     }
 
-    // The time `seconds` after 2000-01-01T00:00:00, where 2000-01-01 follows 2199-12-31.
+    // The time `seconds` after 2000-01-01T00:00:00, where 2000-01-01 follows 2199-12-31. Every number fits its field,
+    // here and in `civil_from_days`: `try_from` in place of `as` would have an answer for numbers that do not come.
     pub fn from_wrapped_seconds(seconds: u64) -> DateTime
         ensures { result ≡ time_of (seconds % 6311433600) }
     {
@@ -178,14 +186,11 @@ impl DateTime {
     }
 
     // The seconds since 2000-01-01T00:00:00 of a valid time.
-    pub fn seconds_since_2000(self) -> SecondsResult
-        ensures { seconds_answer result ≡ and_then (checked self) (accepted (seconds_of self)) }
+    pub fn seconds_since_2000(self) -> Result<u64, DateTimeError>
+        ensures { answered date_row result ≡ and_then (checked self) (accepted (seconds_of self)) }
     {
-        let validity = self.validate();
-        match validity {
-            Validity::Valid => SecondsResult::Ok(self.seconds_of_valid()),
-            Validity::Invalid(error) => SecondsResult::Err(error),
-        }
+        self.validate()?;
+        Ok(self.seconds_of_valid())
     }
 
     fn seconds_of_valid(self) -> u64
@@ -193,38 +198,33 @@ impl DateTime {
         ensures { result ≡ seconds_of self }
     {
         days_since_2000(self.year, self.month, self.day) * SECONDS_PER_DAY
-            + self.hour as u64 * SECONDS_PER_HOUR
-            + self.minute as u64 * SECONDS_PER_MINUTE
-            + self.second as u64
+            + u64::from(self.hour) * SECONDS_PER_HOUR
+            + u64::from(self.minute) * SECONDS_PER_MINUTE
+            + u64::from(self.second)
     }
 
     // The day of the week of a valid time, Monday 1 to Sunday 7.
-    pub fn weekday(self) -> WeekdayResult
-        ensures { weekday_answer result ≡ and_then (checked self) (accepted (weekday_of self)) }
+    pub fn weekday(self) -> Result<u8, DateTimeError>
+        ensures { answered date_row result ≡ and_then (checked self) (accepted (weekday_of self)) }
     {
-        let validity = self.validate();
-        match validity {
-            Validity::Valid => {
-                let days = days_since_2000(self.year, self.month, self.day);
-                WeekdayResult::Ok(weekday_of_day(days, WEEKDAY_OF_2000_OFFSET))
-            }
-            Validity::Invalid(error) => WeekdayResult::Err(error),
-        }
+        self.validate()?;
+        let days = days_since_2000(self.year, self.month, self.day);
+        Ok(weekday_of_day(days, WEEKDAY_OF_2000_OFFSET))
     }
 
     // The time whose every field is moved to the nearest value in its range, a day past the month's end to its last day.
     pub fn nearest(self) -> DateTime
         ensures { result ≡ nearest self }
     {
-        let year = clamp_u16(self.year, DateTime::FIRST_YEAR, DateTime::LAST_YEAR);
-        let month = clamp_u8(self.month, 1, 12);
+        let year = self.year.clamp(DateTime::FIRST_YEAR, DateTime::LAST_YEAR);
+        let month = self.month.clamp(1, 12);
         DateTime {
             year,
             month,
-            day: clamp_u8(self.day, 1, days_in_month(year, month)),
-            hour: clamp_u8(self.hour, 0, 23),
-            minute: clamp_u8(self.minute, 0, 59),
-            second: clamp_u8(self.second, 0, 59),
+            day: self.day.clamp(1, days_in_month(year, month)),
+            hour: self.hour.min(23),
+            minute: self.minute.min(59),
+            second: self.second.min(59),
         }
     }
 
@@ -236,40 +236,10 @@ impl DateTime {
     }
 }
 
-fn clamp_u8(value: u8, low: u8, high: u8) -> u8
-    ensures { result ≡ nearest_in low high value }
-{
-    if value < low {
-        return low;
-    }
-    if high < value {
-        return high;
-    }
-    value
-}
-
-fn clamp_u16(value: u16, low: u16, high: u16) -> u16
-    ensures { result ≡ nearest_in low high value }
-{
-    if value < low {
-        return low;
-    }
-    if high < value {
-        return high;
-    }
-    value
-}
-
 fn is_leap(year: u16) -> bool
     ensures { result ≡ leap year }
 {
-    if year % 4 != 0 {
-        return false;
-    }
-    if year % 100 != 0 {
-        return true;
-    }
-    year % 400 == 0
+    year % 4 == 0 && (year % 100 != 0 || year % 400 == 0)
 }
 
 // The days of a month. A month that is not 1 to 12 counts as one of 31 days.
@@ -277,20 +247,19 @@ pub fn days_in_month(year: u16, month: u8) -> u8
     ensures { result ≡ month_length year month }
 {
     match month {
-        2 => { if is_leap(year) { 29 } else { 28 } }
+        2 if is_leap(year) => 29,
+        2 => 28,
         4 | 6 | 9 | 11 => 30,
         _ => 31,
     }
 }
 
-// Whether a day is past the last of its month. No month ends before its 28th.
+// Whether a day is past the last of its month. No month ends before its 28th. Year, month and day are passed one by one, as
+// `DateTime` has them: a `Date` would be made for this call and `days_since_2000` alone.
 fn is_past_month(year: u16, month: u8, day: u8) -> bool
     ensures { result ≡ ltb (month_length year month) day }
 {
-    if day <= 28 {
-        return false;
-    }
-    day > days_in_month(year, month)
+    day > 28 && day > days_in_month(year, month)
 }
 
 // The days from 2000-01-01 to a date in the range, on a year that starts in March so that the leap day ends it.
@@ -298,19 +267,13 @@ fn days_since_2000(year: u16, month: u8, day: u8) -> u64
     requires { ValidDate year month day }
     ensures { result ≡ day_number year month day }
 {
-    let before = years_before(month);
+    // The March year of January and February is the year before their own.
+    let before = u64::from(month <= 2);
     march_days(
-        year as u64 - before,
-        month as u64 + 12 * before - 3,
-        day as u64,
+        u64::from(year) - before,
+        u64::from(month) + 12 * before - 3,
+        u64::from(day),
     )
-}
-
-// How many years before its own year the March year of a month starts: 1 for January and February.
-fn years_before(month: u8) -> u64
-    ensures { ((month ≤ 2) × (result ≡ 1)) ⊎ ((2 < month) × (result ≡ 0)) }
-{
-    if month <= 2 { 1 } else { 0 }
 }
 
 // The days from 2000-01-01 to a day of a month, 0 for March to 11 for February, of a year that starts in March.

@@ -8,11 +8,11 @@
 
 ghost use Rattle.std.specs.Prelude.{◌≡◌, ◌*◌, ◌^◌};
 ghost use Rattle.refusals.specs.Numbered.{accepted, and_then};
-ghost use Rattle.calendar.specs.Answers.{refused_by};
 ghost use Rattle.calendar.specs.Stated.{date_time, checked_seconds, checked, time_of, seconds_of};
 ghost use Rattle.dates_host.specs.Packed.{packed_date, host_date, host_seconds};
 
-use calendar::{DateTime, DateTimeError, FromSecondsResult, SecondsResult};
+use calendar::DateTime;
+use refusals::Refusal;
 
 // What each field of a packed date counts for: a second counts for 1, and each field before for 256 of the one after it.
 const MINUTE: u64 = 256;
@@ -33,10 +33,9 @@ const REFUSAL: u64 = YEAR * 65_536;
 pub fn clock_date_from_seconds(seconds: u64) -> u64
     ensures { result ≡ host_date (and_then (checked_seconds seconds) (accepted (time_of seconds))) }
 {
-    let answer = DateTime::from_seconds_since_2000(seconds);
-    match answer {
-        FromSecondsResult::Ok(date) => packed(date),
-        FromSecondsResult::OutOfRange => refused(8),
+    match DateTime::from_seconds_since_2000(seconds) {
+        Some(date) => packed(date),
+        None => refused(8),
     }
 }
 
@@ -59,10 +58,9 @@ pub fn clock_seconds_from_date(
         minute,
         second,
     };
-    let answer = date.seconds_since_2000();
-    match answer {
-        SecondsResult::Ok(seconds) => seconds,
-        SecondsResult::Err(error) => refused(number(error)),
+    match date.seconds_since_2000() {
+        Ok(seconds) => seconds,
+        Err(error) => refused(error.number()),
     }
 }
 
@@ -70,31 +68,17 @@ pub fn clock_seconds_from_date(
 fn packed(date: DateTime) -> u64
     ensures { result ≡ packed_date date }
 {
-    date.year as u64 * YEAR
-        + date.month as u64 * MONTH
-        + date.day as u64 * DAY
-        + date.hour as u64 * HOUR
-        + date.minute as u64 * MINUTE
-        + date.second as u64
-}
-
-// The number of what is wrong with a date.
-fn number(error: DateTimeError) -> u8
-    ensures { result * 2 ^ 56 ≡ host_seconds (refused_by error) }
-{
-    match error {
-        DateTimeError::Year(_) => 1,
-        DateTimeError::Month(_) => 2,
-        DateTimeError::Day { .. } => 3,
-        DateTimeError::Hour(_) => 4,
-        DateTimeError::Minute(_) => 5,
-        DateTimeError::Second(_) => 6,
-    }
+    u64::from(date.year) * YEAR
+        + u64::from(date.month) * MONTH
+        + u64::from(date.day) * DAY
+        + u64::from(date.hour) * HOUR
+        + u64::from(date.minute) * MINUTE
+        + u64::from(date.second)
 }
 
 // A refusal, by its number.
 fn refused(number: u8) -> u64
     ensures { result ≡ number * 2 ^ 56 }
 {
-    number as u64 * REFUSAL
+    u64::from(number) * REFUSAL
 }

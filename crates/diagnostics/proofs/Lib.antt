@@ -1,5 +1,3 @@
 pub mod Lossless
 pub mod Counts
-pub mod OneMore
-pub mod Lent
 pub mod Stores

@@ -1,17 +1,19 @@
--- A line loses nothing of a kind, and a numbered answer nothing of `report`'s answer.
+-- A line loses nothing of a kind, and a numbered answer nothing of what `report` answers.
 -- Assumes nothing.
 use Prim.Native.Nat.{ℕ}
 use mathlib.Core.Path.{◌≡◌, refl}
 use lib.Dec.{eqb}
-use Rattle.refusals.specs.Numbered.{Numbered, accepted, refused}
-use Rattle.std.specs.Prelude.{if◌then◌else◌}
+use Rattle.refusals.specs.Numbered.{Row, answered}
+use Rattle.refusals.proofs.Lossless.{answered_lossless}
+use Rattle.std.specs.Prelude.{if◌then◌else◌, Result}
 use Rattle.computed.proofs.Lossless.{lossless}
-use Rattle.diagnostics.specs.Lent.{report_numbered}
+use Rattle.diagnostics.specs.Lent.{not_sound_row, lent_row}
 use Rattle.diagnostics.specs.Reports.{Word, UNDEFINED, READONLY, NOREGISTER, NOTMODELLED, Column, none, number, Line, line_of}
 use Rattle.diagnostics.specs.declared.I2cDiagnosticKind.{I2cDiagnosticKind}
 use Rattle.diagnostics.specs.declared.I2cDiagnosticKind.TheVariants.{NotModelled, ReadOnly, NoSuchRegister, Undefined}
-use Rattle.diagnostics.specs.declared.ReportAnswer.{ReportAnswer}
-use Rattle.diagnostics.specs.declared.ReportAnswer.TheVariants.{Done, NotSound, StoreLength}
+use Rattle.diagnostics.specs.declared.NotSound.{NotSound as NotSoundError}
+use Rattle.diagnostics.specs.declared.LentError.{LentError}
+use Rattle.diagnostics.specs.declared.LentError.TheVariants.{NotSound, StoreLength}
 
 abbrev value : Column → ℕ
 value none = 0
@@ -36,15 +38,24 @@ back (Undefined r b) = refl
 pub line_lossless : (k l : I2cDiagnosticKind) → line_of k ≡ line_of l → k ≡ l
 line_lossless = lossless line_of kind_of back
 
--- `report`
-abbrev answer_of : Numbered (Unit {0}) → ReportAnswer
-answer_of (accepted u) = Done
-answer_of (refused n vs) = if eqb n 10 then NotSound else StoreLength
+-- a call that is lent a store
+abbrev error_of : Row → LentError
+error_of r = if eqb r.number 10 then NotSound else StoreLength
 
-answer_back : (a : ReportAnswer) → answer_of (report_numbered a) ≡ a
-answer_back Done = refl
-answer_back NotSound = refl
-answer_back StoreLength = refl
+error_back : (e : LentError) → error_of (lent_row e) ≡ e
+error_back NotSound = refl
+error_back StoreLength = refl
 
-pub answer_lossless : (a b : ReportAnswer) → report_numbered a ≡ report_numbered b → a ≡ b
-answer_lossless = lossless report_numbered answer_of answer_back
+pub lent_lossless : (d e : LentError) → lent_row d ≡ lent_row e → d ≡ e
+lent_lossless = lossless lent_row error_of error_back
+
+not_sound_lossless : (d e : NotSoundError) → not_sound_row d ≡ not_sound_row e → d ≡ e
+not_sound_lossless d e q = refl
+
+-- of two answers of a call that is passed a chip and no store
+pub asked_lossless : {A : Type 0} (p q : Result A NotSoundError) → answered not_sound_row p ≡ answered not_sound_row q → p ≡ q
+asked_lossless = answered_lossless not_sound_row not_sound_lossless
+
+-- of two answers of a call that is lent a store
+pub answer_lossless : {A : Type 0} (p q : Result A LentError) → answered lent_row p ≡ answered lent_row q → p ≡ q
+answer_lossless = answered_lossless lent_row lent_lossless

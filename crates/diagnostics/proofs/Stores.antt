@@ -7,7 +7,7 @@ use mathlib.Core.Path.{◌≡◌, refl, sym, ◌∙◌, ap, subst}
 use lib.Dec.{T, ltb, nltb→le}
 use lib.ListN.{length, set, length-set}
 use lib.Seq.{set_out}
-use Rattle.std.specs.Prelude.{if◌then◌else◌}
+use Rattle.std.specs.Prelude.{if◌then◌else◌, Option, Some}
 use Rattle.diagnostics.specs.Reports.{counted, stored, stored_all}
 use Rattle.diagnostics.specs.ByValue.{posted}
 use Rattle.diagnostics.specs.declared.Diagnostics.{Diagnostics}
@@ -15,8 +15,8 @@ use Rattle.diagnostics.specs.declared.I2cDiagnostic.{I2cDiagnostic}
 use Rattle.diagnostics.specs.declared.Posting.{Posting}
 
 -- a record at the waiting count of n
-abbrev pub post_of : Diagnostics → I2cDiagnostic → Posting
-post_of n d = record { write = true; slot = n.waiting; «record» = d }
+abbrev pub post_of : Diagnostics → I2cDiagnostic → Option Posting
+post_of n d = Some (record { slot = n.waiting; «record» = d })
 
 pub post_stores : (n : Diagnostics) (d : I2cDiagnostic) (s : List I2cDiagnostic) → length s ≡ 256 → posted (post_of n d) s ≡ stored n d s
 post_stores n d s l = by (ltb n.waiting 256) refl

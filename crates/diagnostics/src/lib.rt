@@ -5,19 +5,23 @@
 
 ghost use Rattle.std.specs.Prelude.{◌≡◌};
 ghost use Rattle.diagnostics.specs.Reports.{counted, unwritten, report as report_of};
-ghost use Rattle.diagnostics.specs.Lent.{ReportedTo};
-ghost use Rattle.diagnostics.specs.ByValue.{posted, no_posting, ReportedOnStores};
+ghost use Rattle.diagnostics.specs.Lent.{not_sound_row, lent_row, ReportedTo};
+ghost use Rattle.diagnostics.specs.declared.LentError.TheVariants.{NotSound as LentNotSound};
+ghost use Rattle.diagnostics.specs.ByValue.{posted, ReportedOnStores};
+
+use refusals::Refusal;
+use thiserror::Error;
 
 // How many records the store has room for.
 pub const MAX_DIAGNOSTICS: usize = 256;
 
 // The chip that reports.
-#[derive(Clone, Copy)]
+#[derive(Clone, Copy, Debug, PartialEq, Eq, Hash)]
 pub enum ChipName {
     Ds3231,
 }
 
-#[derive(Clone, Copy)]
+#[derive(Clone, Copy, Debug, PartialEq, Eq, Hash)]
 pub enum I2cDiagnosticKind {
     // Control enabled the INT/SQW output, which is not modelled: the byte as written.
     NotModelled { value: u8 },
@@ -30,7 +34,7 @@ pub enum I2cDiagnosticKind {
 }
 
 // A diagnostic, the chip that reported it and its instant.
-#[derive(Clone, Copy)]
+#[derive(Clone, Copy, Debug, PartialEq, Eq, Hash)]
 pub struct I2cDiagnostic {
     pub at: u64,
     pub chip: ChipName,
@@ -38,142 +42,153 @@ pub struct I2cDiagnostic {
 }
 
 impl I2cDiagnostic {
+    // A report of the clock.
+    pub fn new(at: u64, kind: I2cDiagnosticKind) -> I2cDiagnostic
+        ensures { result ≡ report_of at kind }
+    {
+        I2cDiagnostic {
+            at,
+            chip: ChipName::Ds3231,
+            kind,
+        }
+    }
+
     // What stands in a record that no report was written to.
     pub fn unwritten() -> I2cDiagnostic
         ensures { result ≡ unwritten }
     {
-        I2cDiagnostic {
-            at: 0,
-            chip: ChipName::Ds3231,
-            kind: I2cDiagnosticKind::ReadOnly { register: 0 },
-        }
+        I2cDiagnostic::new(0, I2cDiagnosticKind::ReadOnly { register: 0 })
     }
 }
 
-// A record with its place in the store, if there is one to write.
-#[derive(Clone, Copy)]
+// A record with its place in the store.
+#[derive(Clone, Copy, Debug, PartialEq, Eq)]
 pub struct Posting {
-    pub write: bool,
     pub slot: usize,
     pub record: I2cDiagnostic,
 }
 
-impl Posting {
-    // No record to write.
-    pub fn none() -> Posting
-        ensures { result ≡ no_posting }
-    {
-        let record = I2cDiagnostic::unwritten();
-        Posting {
-            write: false,
-            slot: 0,
-            record,
+// A chip, or the counts of its store, that is not sound.
+#[derive(Clone, Copy, Debug, PartialEq, Eq, Error)]
+#[error("the chip is not sound")]
+pub struct NotSound;
+
+impl Refusal for NotSound {
+    ghost row = { not_sound_row };
+
+    fn number(&self) -> u8 {
+        10
+    }
+}
+
+// Why a call that is lent a store is refused.
+#[derive(Clone, Copy, Debug, PartialEq, Eq, Error)]
+pub enum LentError {
+    #[error("the chip or the counts are not sound")]
+    NotSound,
+    #[error("the store does not have 256 records")]
+    StoreLength,
+}
+
+impl Refusal for LentError {
+    ghost row = { lent_row };
+
+    fn number(&self) -> u8 {
+        match self {
+            LentError::NotSound => 10,
+            LentError::StoreLength => 11,
         }
     }
 }
 
-// How many records wait in the store, from its start, and how many reports were dropped since power-on.
-#[derive(Clone, Copy)]
+impl From<NotSound> for LentError {
+    ghost from_gives = { λ _ e. e ≡ LentNotSound };
+
+    fn from(_error: NotSound) -> LentError {
+        LentError::NotSound
+    }
+}
+
+// How many records wait in the store, from its start, and how many reports were dropped since power-on. The store is lent, of
+// 256 records: a chip needs no heap.
+#[derive(Clone, Copy, Debug, PartialEq, Eq)]
 pub struct Diagnostics {
     pub waiting: usize,
     pub dropped: u64,
 }
 
-// What `report` answers.
-#[derive(Clone, Copy)]
-pub enum ReportAnswer {
-    Done,
-    // More records wait than the store has room for.
-    NotSound,
-    // The store does not have 256 records.
-    StoreLength,
+impl Diagnostics {
+    // The counts after one more report: it waits in the store, or is dropped where the store is full.
+    pub fn one_more(self) -> Diagnostics
+        ensures { result ≡ counted self }
+    {
+        if self.waiting < MAX_DIAGNOSTICS {
+            return Diagnostics {
+                waiting: self.waiting + 1,
+                ..self
+            };
+        }
+        Diagnostics {
+            dropped: self.dropped.saturating_add(1),
+            ..self
+        }
+    }
+
+    // One more report of the clock: its record is written at the waiting count, or it is dropped where the store is full.
+    pub fn report(
+        &mut self,
+        store: &mut [I2cDiagnostic],
+        kind: I2cDiagnosticKind,
+        at: u64,
+    ) -> Result<(), LentError>
+        ensures { ReportedTo self.old store.old (report_of at kind) result self.new store.new }
+    {
+        let out = self.reported(store.len(), kind, at)?;
+        *self = out.counts;
+        post(store, Some(out.posting));
+        Ok(())
+    }
+
+    // A report by value, into a store of `len` records.
+    fn reported(
+        self,
+        len: usize,
+        kind: I2cDiagnosticKind,
+        at: u64,
+    ) -> Result<ReportOutcome, LentError>
+        ensures { ReportedOnStores self len (report_of at kind) result }
+    {
+        if self.waiting > MAX_DIAGNOSTICS {
+            return Err(LentError::NotSound);
+        }
+        if len != MAX_DIAGNOSTICS {
+            return Err(LentError::StoreLength);
+        }
+        Ok(ReportOutcome {
+            counts: self.one_more(),
+            posting: Posting {
+                slot: self.waiting,
+                record: I2cDiagnostic::new(at, kind),
+            },
+        })
+    }
 }
 
-// What a report leaves of the counts, its answer, and the record to write.
+// What a report leaves of the counts, and the record to write.
 #[derive(Clone, Copy)]
 struct ReportOutcome {
     counts: Diagnostics,
-    answer: ReportAnswer,
     posting: Posting,
-}
-
-// The counts after one more report: it waits in the store, or is dropped where the store is full.
-pub fn one_more(counts: Diagnostics) -> Diagnostics
-    ensures { result ≡ counted counts }
-{
-    let mut counts = counts;
-    if counts.waiting < MAX_DIAGNOSTICS {
-        counts.waiting = counts.waiting + 1;
-        return counts;
-    }
-    if counts.dropped < u64::MAX {
-        counts.dropped = counts.dropped + 1;
-    }
-    counts
-}
-
-// One more report of the clock: its record is written at the waiting count, or it is dropped where the store is full.
-pub fn report(
-    counts: &mut Diagnostics,
-    store: &mut [I2cDiagnostic],
-    kind: I2cDiagnosticKind,
-    at: u64,
-) -> ReportAnswer
-    ensures { ReportedTo counts.old store.old (report_of at kind) result counts.new store.new }
-{
-    let c = *counts;
-    let out = reported(c, store.len(), kind, at);
-    *counts = out.counts;
-    post(store, out.posting);
-    out.answer
 }
 
 // Writes a report's record into a lent store, if there is one and the store has its place. No other function puts a report
 // into a lent store.
-pub fn post(store: &mut [I2cDiagnostic], posting: Posting)
+pub fn post(store: &mut [I2cDiagnostic], posting: Option<Posting>)
     ensures { store.new ≡ posted posting store.old }
 {
-    if posting.write {
+    if let Some(posting) = posting {
         if posting.slot < store.len() {
             store[posting.slot] = posting.record;
         }
-    }
-}
-
-// A report by value, into a store of `len` records.
-fn reported(counts: Diagnostics, len: usize, kind: I2cDiagnosticKind, at: u64) -> ReportOutcome
-    ensures { ReportedOnStores counts len (report_of at kind) result }
-{
-    if counts.waiting > MAX_DIAGNOSTICS {
-        return refused(counts, ReportAnswer::NotSound);
-    }
-    if len != MAX_DIAGNOSTICS {
-        return refused(counts, ReportAnswer::StoreLength);
-    }
-    let record = I2cDiagnostic {
-        at,
-        chip: ChipName::Ds3231,
-        kind,
-    };
-    let posting = Posting {
-        write: true,
-        slot: counts.waiting,
-        record,
-    };
-    ReportOutcome {
-        counts: one_more(counts),
-        answer: ReportAnswer::Done,
-        posting,
-    }
-}
-
-// A refusal leaves the counts and writes nothing.
-fn refused(counts: Diagnostics, answer: ReportAnswer) -> ReportOutcome
-    ensures { result ≡ record { counts = counts; answer = answer; posting = no_posting } }
-{
-    ReportOutcome {
-        counts,
-        answer,
-        posting: Posting::none(),
     }
 }

@@ -10,7 +10,7 @@ use lib.Dec.{leb, eqb}
 use lib.ListN.{length}
 use Rattle.refusals.specs.Numbered.{Numbered, accepted, refused, and_then, unless}
 use Rattle.refusals.proofs.Checks.{never}
-use Rattle.std.specs.Prelude.{if◌then◌else◌}
+use Rattle.std.specs.Prelude.{if◌then◌else◌, Option, Some, None}
 use Rattle.computed.specs.Entries.{At, entry}
 use Rattle.computed.proofs.Choice.{chosen}
 use Rattle.calendar.specs.Stated.{InRange, checked, seconds_of}
@@ -26,7 +26,7 @@ use Rattle.ds3231.specs.Calls.{in_quarters, sound, timing_on, chip_on, checked_q
 use Rattle.ds3231.specs.Model.{Stage, reads, Model, is_reads, model_on}
 use Rattle.ds3231.specs.Exact.{events_by, events, fully_lent, model_after, instant, NeverFall, last_instant, Watched, marks, watched_by, watched, after, TimeRead, answer_to, Holds, ExactTime}
 use Rattle.ds3231.specs.Total.{chip_after_all}
-use Rattle.ds3231.specs.Types.{Register, Named, One, None}
+use Rattle.ds3231.specs.Types.{Register}
 use Rattle.ds3231.specs.declared.Phase.{Phase}
 use Rattle.ds3231.specs.declared.Phase.TheVariants.{Released, Pointer, Writing, Reading, Ignoring}
 use Rattle.ds3231.specs.declared.Timing.{Timing}
@@ -84,8 +84,8 @@ write_latch Reading b t c = refl
 write_latch Ignoring b t c = refl
 write_latch Pointer b t c = by (named b)
   where
-    by : (d : Named) → (pointed_by d c.timing).latched ≡ c.timing.latched
-    by (One r) = refl
+    by : (d : Option Register) → (pointed_by d c.timing).latched ≡ c.timing.latched
+    by (Some r) = refl
     by None = refl
 write_latch Writing b t c = refl
 
@@ -242,7 +242,7 @@ read_answer s k t c v p =
 
 -- what `register` answers at the number of a register of a sound chip
 register_answer_lem : (c : Ds3231) (r : Register) (n t : ℕ) → Sound c → n ≡ number_of r → register_answer c n t ≡ accepted (byte_at (shown_at c.timing t) c.registers r t)
-register_answer_lem c r n t w e = asked c (register_byte (named n) c t) (sound_test c w) ∙ ap (λ (d : Named). register_byte d c t) (names_one n (One r) (sym e))
+register_answer_lem c r n t w e = asked c (register_byte (named n) c t) (sound_test c w) ∙ ap (λ (d : Option Register). register_byte d c t) (names_one n (Some r) (sym e))
 
 -- what `now` shows is valid, and its seconds are the clock's
 shown_valid : (c : Ds3231) (t : ℕ) → InRange (shown_time c t)

@@ -1,19 +1,20 @@
 -- What `sound` tests, as facts about numbers, and back.
 -- Assumes nothing.
 use Prim.Native.Nat.{ℕ, ◌≤◌, ◌<◌}
-use mathlib.Core.Bool.{Bool, true, false, not, ◌&&◌, ◌||◌, false≢true}
+use mathlib.Core.Bool.{Bool, true, false, ◌&&◌, false≢true}
 use mathlib.Core.Path.{◌≡◌, refl, sym, ap}
 use native.Mathlib.Omega.{arith}
 use borrow.Author.Tests.{leb-true, ltb-true, eqb-true, le-leb, lt-ltb, eq-eqb}
 use lib.Dec.{leb, ltb, eqb}
 use lib.Bits.{bit_and}
+use Rattle.std.specs.Prelude.{Option, Some, None}
 use Rattle.refusals.specs.Numbered.{Numbered, accepted, refused, is_accepted}
 use Rattle.computed.proofs.Choice.{both, both_true}
 use Rattle.calendar.specs.Stated.{InRange, with_day, checked}
 use Rattle.calendar.proofs.Laws.{in_range_accepted, accepted_in_range, month_bounds}
 use Rattle.calendar.specs.declared.DateTime.{DateTime}
 use Rattle.ds3231.specs.Numbers.{range}
-use Rattle.ds3231.specs.Calls.{sound_time, sound_pending, sound_timing, in_quarters, sound_registers, sound}
+use Rattle.ds3231.specs.Calls.{sound_time, sound_pending, sound_if_pending, sound_timing, in_quarters, sound_registers, sound}
 use Rattle.ds3231.specs.declared.PendingTime.{PendingTime}
 use Rattle.ds3231.specs.declared.Timing.{Timing}
 use Rattle.ds3231.specs.declared.Registers.{Registers}
@@ -35,10 +36,15 @@ pub record PendingIn (p : PendingTime) : Type 0 where
   pub week_from : 1 ≤ p.weekday
   pub week_to : p.weekday ≤ 7
 
+-- of a pending time, if there is one
+abbrev pub HasPending : Option PendingTime → Type 0
+HasPending (Some p) = PendingIn p
+HasPending None = Unit {0}
+
 pub record TimingIn (c : Timing) : Type 0 where
   pub base : c.clock.base_seconds < range
   pub offset : c.clock.weekday_offset ≤ 6
-  pub pending : c.is_pending ≡ true → PendingIn c.pending
+  pub pending : HasPending c.pending
 
 pub record RegistersIn (g : Registers) : Type 0 where
   pub quarters : in_quarters g.temperature_quarters ≡ true
@@ -100,10 +106,10 @@ ranges_fact t e =
       day_to = leb-true _ _ d.1;
     }
 
-pending_test : (q : Bool) (p : PendingTime) → (q ≡ true → PendingIn p) → (not q || sound_pending p) ≡ true
+pending_test : (q : Option PendingTime) → HasPending q → sound_if_pending q ≡ true
 unfolding sound_pending
-pending_test true p h = both_true _ _ (both_true _ _ (time_test _ (h refl).time) (le-leb _ _ (h refl).week_from)) (le-leb _ _ (h refl).week_to)
-pending_test false p h = refl
+pending_test (Some p) h = both_true _ _ (both_true _ _ (time_test _ h.time) (le-leb _ _ h.week_from)) (le-leb _ _ h.week_to)
+pending_test None h = refl
 
 pub sound_test : (c : Ds3231) → Sound c → sound c ≡ true
 unfolding sound sound_timing sound_registers
@@ -111,7 +117,7 @@ sound_test c h =
     let t = h.timing in
     let g = h.registers in
     both_true _ _ (both_true _ _
-    (both_true _ _ (both_true _ _ (lt-ltb _ _ t.base) (le-leb _ _ t.offset)) (pending_test c.timing.is_pending c.timing.pending t.pending))
+    (both_true _ _ (both_true _ _ (lt-ltb _ _ t.base) (le-leb _ _ t.offset)) (pending_test c.timing.pending t.pending))
     (both_true _ _ (both_true _ _ g.quarters (eq-eqb _ _ g.control)) (eq-eqb _ _ g.status)))
     (le-leb _ _ h.waiting)
 
@@ -132,25 +138,25 @@ same_test false false f g = refl
 pub sound_time_ranges : (t : DateTime) → sound_time t ≡ ranges t
 sound_time_ranges t = same_test (sound_time t) (ranges t) (λ e. ranges_test t (time_fact t e)) (λ e. time_test t (ranges_fact t e))
 
-pending_fact : (q : Bool) (p : PendingTime) → (not q || sound_pending p) ≡ true → q ≡ true → PendingIn p
+pending_fact : (q : Option PendingTime) → sound_if_pending q ≡ true → HasPending q
 unfolding sound_pending
-pending_fact true p e r =
+pending_fact (Some p) e =
     let a = both _ (leb p.weekday 7) e in
     let b = both (sound_time p.time) (leb 1 p.weekday) a.0 in
     record { time = time_fact _ b.0; week_from = leb-true _ _ b.1; week_to = leb-true _ _ a.1 }
-pending_fact false p e r = absurd (false≢true r)
+pending_fact None e = tt
 
 pub sound_fact : (c : Ds3231) → sound c ≡ true → Sound c
 unfolding sound sound_timing sound_registers
 sound_fact c e =
     let a = both _ (leb c.diagnostics.waiting 256) e in
     let b = both (sound_timing c.timing) (sound_registers c.registers) a.0 in
-    let p = both _ (not c.timing.is_pending || sound_pending c.timing.pending) b.0 in
+    let p = both _ (sound_if_pending c.timing.pending) b.0 in
     let o = both (ltb c.timing.clock.base_seconds range) (leb c.timing.clock.weekday_offset 6) p.0 in
     let s = both _ (eqb (bit_and c.registers.status 0x8B) c.registers.status) b.1 in
     let r = both (in_quarters c.registers.temperature_quarters) (eqb (bit_and c.registers.control 0x20) 0) s.0 in
     record {
-      timing = record { base = ltb-true _ _ o.0; offset = leb-true _ _ o.1; pending = pending_fact c.timing.is_pending c.timing.pending p.1 };
+      timing = record { base = ltb-true _ _ o.0; offset = leb-true _ _ o.1; pending = pending_fact c.timing.pending p.1 };
       registers = record { quarters = r.0; control = eqb-true _ _ r.1; status = eqb-true _ _ s.1 };
       waiting = leb-true _ _ a.1;
     }

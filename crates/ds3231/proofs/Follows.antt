@@ -1,14 +1,14 @@
 -- While the instants never fall the chip's timing follows the model: the relation between the two, and that each event keeps it.
 -- Assumes nothing.
 use Prim.Native.Nat.{ℕ, ◌+◌, ◌*◌, ◌-◌, ◌/◌, ◌%◌, ◌≤◌}
-use mathlib.Core.Bool.{Bool, true, false, ◌||◌}
+use mathlib.Core.Bool.{Bool, true, false}
 use mathlib.Core.List.{List, [], ◌∷◌, ◌++◌}
 use mathlib.Core.Path.{◌≡◌, refl, sym, ap, ap₂, ◌∙◌, subst}
 use native.Mathlib.Nat.{le_refl, le_trans}
 use native.Mathlib.Omega.{arith}
 use borrow.Author.Tests.{ltb-true, ltb-false}
 use lib.Dec.{leb, ltb, eqb, lit<}
-use Rattle.std.specs.Prelude.{if◌then◌else◌}
+use Rattle.std.specs.Prelude.{if◌then◌else◌, Option, Some, None}
 use Rattle.computed.proofs.Claim.{Claim, eq, each}
 use Rattle.calendar.specs.Stated.{with_day, time_of, seconds_of, nearest, month_length, day_number}
 use Rattle.calendar.proofs.Laws.{nearest_same, nearest_past}
@@ -17,9 +17,9 @@ use Rattle.fields.specs.Table.{Meaning, undefined, sets, meaning, time_bytes}
 use Rattle.ds3231.specs.Numbers.{nanos, range, day}
 use Rattle.ds3231.specs.Clock.{seconds_at, time_at, weekday_at, second_start}
 use Rattle.ds3231.specs.Changed.{offset_for, changed_time, changed_weekday, changed_mode, next_pointer}
-use Rattle.ds3231.specs.Timing.{phase_for, is_defined, sets_seconds, opened, noted, clock_from, latch, in_phase, pointed, pointed_by, commit, accept}
+use Rattle.ds3231.specs.Timing.{phase_for, is_defined, sets_seconds, found, found_at, noted, clock_from, committed_clock, latch, in_phase, pointed, pointed_by, commit, accept}
 use Rattle.ds3231.specs.Map.{number_of}
-use Rattle.ds3231.specs.Types.{Register, Named}
+use Rattle.ds3231.specs.Types.{Register}
 use Rattle.ds3231.specs.Calls.{written, has_read, step}
 use Rattle.ds3231.specs.Exact.{instant}
 use Rattle.ds3231.specs.declared.Ds3231.{Ds3231}
@@ -32,7 +32,7 @@ use Rattle.ds3231.specs.declared.Phase.{Phase}
 use Rattle.ds3231.specs.declared.Phase.TheVariants.{Released, Pointer, Writing, Reading, Ignoring}
 use Rattle.ds3231.specs.declared.Timing.{Timing}
 use Rattle.ds3231.proofs.Counting.{split_count, whole_count, part_count}
-use Rattle.ds3231.proofs.Facts.{TimeIn, TimingIn}
+use Rattle.ds3231.proofs.Facts.{TimeIn, HasPending, TimingIn}
 use Rattle.ds3231.proofs.Map.{next_moved, wrapping}
 use Rattle.ds3231.proofs.Bytes.{meaning_in, InWeek, weekday_in, offset_in, weekday_shown}
 use Rattle.ds3231.proofs.Places.{stage_of, stage_addressed, by_name, read_in}
@@ -152,10 +152,10 @@ gathered l k first = record { time = date_by l (time_at k first); weekday = week
 abbrev begun : List Accepted → Clock → ℕ → ℕ
 begun l k first = begins_at k first (last_seconds l never)
 
--- a flag, a pending time and its instant stand for the accepted bytes
-abbrev Gathers : List Accepted → Bool → PendingTime → ℕ → Clock → Type 0
-Gathers [] q p b k = q ≡ false
-Gathers (a ∷ l) q p b k = (q ≡ true) × (p ≡ gathered (a ∷ l) k a.at) × (b ≡ begun (a ∷ l) k a.at)
+-- a pending time and its instant, or none, stand for the accepted bytes
+abbrev Gathers : List Accepted → Option PendingTime → ℕ → Clock → Type 0
+Gathers [] q b k = q ≡ None
+Gathers (a ∷ l) q b k = (q ≡ Some (gathered (a ∷ l) k a.at)) × (b ≡ begun (a ∷ l) k a.at)
 
 -- each accepted byte's instant is from lo to hi
 abbrev Within : ℕ → ℕ → List Accepted → Type 0
@@ -168,7 +168,7 @@ pub record Follows (c : Timing) (m : Model) (last : ℕ) : Type 0 where
   pub mode : m.twelve ≡ c.twelve_hour
   pub latched : m.latched ≡ c.latched
   pub clock : FollowsClock c.clock m last
-  pub gathers : Gathers m.accepted c.is_pending c.pending c.pending_at c.clock
+  pub gathers : Gathers m.accepted c.pending c.pending_at c.clock
   pub within : Within m.since last m.accepted
 
 -- one more byte
@@ -199,17 +199,15 @@ within_more (b ∷ l) lo hi a h k w = (w.0, w.1, within_more l lo hi a h k w.2)
 noted_more : (l : List Accepted) (a : Accepted) (k : Clock) (first : ℕ) → noted (meaning_of a) (gathered l k first) ≡ gathered (l ++ (a ∷ [])) k first
 noted_more l a k first = λ j. record { time = date_more l a (time_at k first) j; weekday = weekday_more l a (weekday_at k first) j }
 
-gathers_more : (l : List Accepted) (a : Accepted) (q : Bool) (p : PendingTime) (b : ℕ) (k : Clock) → Gathers l q p b k
-    → Gathers (l ++ (a ∷ [])) true (noted (meaning_of a) (if q then p else opened k a.at)) (if sets_seconds (meaning_of a) then a.at else if q then b else second_start k a.at) k
-gathers_more [] a q p b k g = (
-  refl,
-  ap (λ (x : Bool). noted (meaning_of a) (if x then p else opened k a.at)) g ∙ noted_more [] a k a.at,
-  ap (λ (x : Bool). if sets_seconds (meaning_of a) then a.at else if x then b else second_start k a.at) g ∙ seconds_more [] a k a.at never,
+gathers_more : (l : List Accepted) (a : Accepted) (q : Option PendingTime) (b : ℕ) (k : Clock) → Gathers l q b k
+    → Gathers (l ++ (a ∷ [])) (Some (noted (meaning_of a) (found q k a.at))) (if sets_seconds (meaning_of a) then a.at else found_at q b k a.at) k
+gathers_more [] a q b k g = (
+  ap (λ (x : Option PendingTime). Some (noted (meaning_of a) (found x k a.at))) g ∙ ap Some (noted_more [] a k a.at),
+  ap (λ (x : Option PendingTime). if sets_seconds (meaning_of a) then a.at else found_at x b k a.at) g ∙ seconds_more [] a k a.at never,
 )
-gathers_more (e ∷ l) a q p b k g = (
-  refl,
-  ap₂ (λ (x : Bool) (y : PendingTime). noted (meaning_of a) (if x then y else opened k a.at)) g.0 g.1 ∙ noted_more (e ∷ l) a k e.at,
-  ap₂ (λ (x : Bool) (y : ℕ). if sets_seconds (meaning_of a) then a.at else if x then y else second_start k a.at) g.0 g.2 ∙ seconds_more (e ∷ l) a k e.at never,
+gathers_more (e ∷ l) a q b k g = (
+  ap (λ (x : Option PendingTime). Some (noted (meaning_of a) (found x k a.at))) g.0 ∙ ap Some (noted_more (e ∷ l) a k e.at),
+  ap₂ (λ (x : Option PendingTime) (y : ℕ). if sets_seconds (meaning_of a) then a.at else found_at x y k a.at) g.0 g.1 ∙ seconds_more (e ∷ l) a k e.at never,
 )
 
 -- the last seconds byte's instant is one of them
@@ -267,13 +265,10 @@ clock_closed k m last w a l i v =
     }
 
 -- the clock of a commit
-commit_none : (c : Timing) → c.is_pending ≡ false → (commit c).clock ≡ c.clock
-commit_none c e = ap (λ (b : Bool). if b then clock_from c.pending c.pending_at else c.clock) e
+commit_clock : (c : Timing) (q : Option PendingTime) (b : ℕ) → c.pending ≡ q → c.pending_at ≡ b → (commit c).clock ≡ committed_clock q b c.clock
+commit_clock c q b e r = ap₂ (λ (x : Option PendingTime) (y : ℕ). committed_clock x y c.clock) e r
 
-commit_some : (c : Timing) (p : PendingTime) (b : ℕ) → c.is_pending ≡ true → c.pending ≡ p → c.pending_at ≡ b → (commit c).clock ≡ clock_from p b
-commit_some c p b e q r = λ j. if e j then clock_from (q j) (r j) else c.clock
-
-follow_close : (c : Timing) (m : Model) (last : ℕ) → TimingIn c → Follows c m last → (l : List Accepted) → m.accepted ≡ l → Gathers l c.is_pending c.pending c.pending_at c.clock → Within m.since last l
+follow_close : (c : Timing) (m : Model) (last : ℕ) → TimingIn c → Follows c m last → (l : List Accepted) → m.accepted ≡ l → Gathers l c.pending c.pending_at c.clock → Within m.since last l
     → Follows (commit c) (closed_by l m) last
 follow_close c m last o w [] e g i =
     record {
@@ -281,8 +276,8 @@ follow_close c m last o w [] e g i =
       pointer = w.pointer;
       mode = w.mode;
       latched = w.latched;
-      clock = subst (λ (k : Clock). FollowsClock k m last) (sym (commit_none c g)) w.clock;
-      gathers = subst (λ (x : List Accepted). Gathers x false c.pending c.pending_at (commit c).clock) (sym e) refl;
+      clock = subst (λ (k : Clock). FollowsClock k m last) (sym (commit_clock c None c.pending_at g refl)) w.clock;
+      gathers = subst (λ (x : List Accepted). Gathers x None c.pending_at (commit c).clock) (sym e) refl;
       within = w.within;
     }
 follow_close c m last o w (a ∷ l) e g i =
@@ -292,8 +287,8 @@ follow_close c m last o w (a ∷ l) e g i =
       mode = w.mode;
       latched = w.latched;
       clock =
-          subst (λ (k : Clock). FollowsClock k (closed_by (a ∷ l) m) last) (sym (commit_some c (gathered (a ∷ l) c.clock a.at) (begun (a ∷ l) c.clock a.at) g.0 g.1 g.2))
-          (clock_closed c.clock m last w.clock a l i (subst (λ (p : PendingTime). TimeIn p.time) g.1 (o.pending g.0).time));
+          subst (λ (k : Clock). FollowsClock k (closed_by (a ∷ l) m) last) (sym (commit_clock c (Some (gathered (a ∷ l) c.clock a.at)) (begun (a ∷ l) c.clock a.at) g.0 g.1))
+          (clock_closed c.clock m last w.clock a l i (subst HasPending g.0 o.pending).time);
       gathers = refl;
       within = tt;
     }
@@ -357,12 +352,12 @@ follow_point q r e c m last w =
     }
 
 -- a byte at a register, accepted or not
-gathers_by : (m : Meaning) (a : Accepted) → meaning_of a ≡ m → (l : List Accepted) (q : Bool) (p : PendingTime) (b : ℕ) (k : Clock) → Gathers l q p b k
-    → Gathers (keeps m a l) (is_defined m || q) (if is_defined m then noted m (if q then p else opened k a.at) else p)
-    (if is_defined m then (if sets_seconds m then a.at else if q then b else second_start k a.at) else b) k
-gathers_by undefined a e l q p b k g = g
-gathers_by (sets r n flag) a e l q p b k g =
-    subst (λ (x : Meaning). Gathers (l ++ (a ∷ [])) true (noted x (if q then p else opened k a.at)) (if sets_seconds x then a.at else if q then b else second_start k a.at) k) e (gathers_more l a q p b k g)
+gathers_by : (m : Meaning) (a : Accepted) → meaning_of a ≡ m → (l : List Accepted) (q : Option PendingTime) (b : ℕ) (k : Clock) → Gathers l q b k
+    → Gathers (keeps m a l) (if is_defined m then Some (noted m (found q k a.at)) else q)
+    (if is_defined m then (if sets_seconds m then a.at else found_at q b k a.at) else b) k
+gathers_by undefined a e l q b k g = g
+gathers_by (sets r n flag) a e l q b k g =
+    subst (λ (x : Meaning). Gathers (l ++ (a ∷ [])) (Some (noted x (found q k a.at))) (if sets_seconds x then a.at else found_at q b k a.at) k) e (gathers_more l a q b k g)
 
 within_by : (m : Meaning) (l : List Accepted) (lo hi : ℕ) (a : Accepted) → lo ≤ a.at → a.at ≤ hi → Within lo hi l → Within lo hi (keeps m a l)
 within_by undefined l lo hi a h k w = w
@@ -377,7 +372,7 @@ follow_accept r b t c m w =
       mode = mode_same (meaning r b) m.twelve ∙ ap (changed_mode (meaning r b)) w.mode;
       latched = w.latched;
       clock = clock_kept c.clock m (keeping r b t m) t refl refl refl w.clock;
-      gathers = gathers_by (meaning r b) a refl m.accepted c.is_pending c.pending c.pending_at c.clock w.gathers;
+      gathers = gathers_by (meaning r b) a refl m.accepted c.pending c.pending_at c.clock w.gathers;
       within = within_by (meaning r b) m.accepted m.since t a w.clock.since (le_refl t) w.within;
     }
 
@@ -389,7 +384,7 @@ follow_write Reading b t c m w = w
 follow_write Ignoring b t c m w = w
 follow_write Pointer b t c m w =
     let k = c.timing in
-    by_name (λ (d : Named) (x : Bool). Follows (pointed_by d c.timing) (if x then standing writes (pointing b m) else standing drops m) t) b
+    by_name (λ (d : Option Register) (x : Bool). Follows (pointed_by d c.timing) (if x then standing writes (pointing b m) else standing drops m) t) b
     (λ r e. follow_phase Writing writes refl (pointed r k) (pointing b m) t (follow_point b r (sym e) k m t w)) (follow_phase Ignoring drops refl k m t w)
 follow_write Writing b t c m w =
     let r = c.timing.pointer in

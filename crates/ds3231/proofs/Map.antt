@@ -8,11 +8,13 @@ use mathlib.Core.Path.{◌≡◌, refl, sym, ap, subst, ◌∙◌}
 use native.Mathlib.Omega.{arith}
 use borrow.Author.Tests.{eqb-true, leb-true, leb-false, lt-ltb, le-ltb}
 use lib.Dec.{T, leb, ltb, eqb}
-use Rattle.std.specs.Prelude.{if◌then◌else◌}
+use Rattle.std.specs.Prelude.{if◌then◌else◌, Option, Some, None, slice_get, ◌%◌}
+use Rattle.std.proofs.lemmas.Option.{slice_get_within}
+use lib.ListN.{get_or}
 use Rattle.computed.specs.Entries.{At}
 use Rattle.computed.proofs.Choice.{le_or_lt}
 use Rattle.computed.proofs.Claim.{Claim, eq, le, holds, Means, first, rest, means, each}
-use Rattle.ds3231.specs.Types.{Register, Seconds, Minutes, Hours, Weekday, Date, Month, Year, Alarm1Seconds, Alarm1Minutes, Alarm1Hours, Alarm1Day, Alarm2Minutes, Alarm2Hours, Alarm2Day, Control, Status, Aging, TemperatureMsb, TemperatureLsb, Named, One, None}
+use Rattle.ds3231.specs.Types.{Register, Seconds, Minutes, Hours, Weekday, Date, Month, Year, Alarm1Seconds, Alarm1Minutes, Alarm1Hours, Alarm1Day, Alarm2Minutes, Alarm2Hours, Alarm2Day, Control, Status, Aging, TemperatureMsb, TemperatureLsb}
 use Rattle.ds3231.specs.Map.{number_of, Names, register_map, named_in, named}
 use Rattle.ds3231.specs.Changed.{next_pointer}
 use Rattle.ds3231.specs.Model.{moved_pointer}
@@ -66,17 +68,17 @@ number_one r s e = at_one register_map (number_of s) r s (subst (λ (n : ℕ). A
 
 -- ---- what a number names
 
-found : (l : List Register) (n : ℕ) (r : Register) → named_in l n ≡ One r → number_of r ≡ n
+found : (l : List Register) (n : ℕ) (r : Register) → named_in l n ≡ Some r → number_of r ≡ n
 found [] n r e = cc
 found (s ∷ l) n r e = by (eqb n (number_of s)) refl (found l n r) e
   where
-    by : (b : Bool) → eqb n (number_of s) ≡ b → (named_in l n ≡ One r → number_of r ≡ n) → (if b then One s else named_in l n) ≡ One r → number_of r ≡ n
+    by : (b : Bool) → eqb n (number_of s) ≡ b → (named_in l n ≡ Some r → number_of r ≡ n) → (if b then Some s else named_in l n) ≡ Some r → number_of r ≡ n
     by true q f h = let z : s ≡ r = cc in ap number_of (sym z) ∙ sym (eqb-true n (number_of s) q)
     by false q f h = f h
 
 -- the number of what a number names, and past the map 19
-abbrev number_in : Named → ℕ
-number_in (One r) = number_of r
+abbrev number_in : Option Register → ℕ
+number_in (Some r) = number_of r
 number_in None = 19
 
 in_order : (n : ℕ) → n < 19 → number_in (named n) ≡ n
@@ -87,18 +89,29 @@ pub named_names : (n : ℕ) → Names n (named n)
 unfolding named
 named_names n = by (named n) refl
   where
-    by : (d : Named) → named n ≡ d → Names n d
-    by (One r) e = found register_map n r e
+    by : (d : Option Register) → named n ≡ d → Names n d
+    by (Some r) e = found register_map n r e
     by None e = ⊎_elim (λ h. let z = sym (ap number_in e) ∙ in_order n (omega arith) in absurd (omega arith)) (λ h. h) (le_or_lt n 0x12)
 
-pub names_one : (n : ℕ) (d : Named) → Names n d → named n ≡ d
+pub names_one : (n : ℕ) (d : Option Register) → Names n d → named n ≡ d
 names_one n d h = by (named n) d (named_names n) h
   where
-    by : (x y : Named) → Names n x → Names n y → x ≡ y
-    by (One r) (One s) p q = ap One (number_one r s (p ∙ sym q))
-    by (One r) None p q = let z = number_below r in absurd (omega arith)
-    by None (One s) p q = let z = number_below s in absurd (omega arith)
+    by : (x y : Option Register) → Names n x → Names n y → x ≡ y
+    by (Some r) (Some s) p q = ap Some (number_one r s (p ∙ sym q))
+    by (Some r) None p q = let z = number_below r in absurd (omega arith)
+    by None (Some s) p q = let z = number_below s in absurd (omega arith)
     by None None p q = refl
+
+-- it names the register at its place in the map
+pub named_at : (n : ℕ) → named n ≡ slice_get register_map n
+named_at n = names_one n (slice_get register_map n) (by (slice_get register_map n) refl)
+  where
+    placed : n < 19 → number_in (slice_get register_map n) ≡ n
+    placed h = each (λ k. eq (number_in (slice_get register_map k)) k) 0 19 tt n (omega arith) h
+
+    by : (d : Option Register) → slice_get register_map n ≡ d → Names n d
+    by (Some r) e = let h = slice_get_within register_map n r e in ap number_in (sym e) ∙ placed h
+    by None e = ⊎_elim (λ h. let z = sym (ap number_in e) ∙ placed (omega arith) in absurd (omega arith)) (λ h. h) (le_or_lt n 0x12)
 
 -- ---- the pointer after a register
 
@@ -116,9 +129,13 @@ wrapping P r f g = by (leb 0x12 (number_of r)) refl
     by true e = f (moved false (le-ltb (number_of r) 0x12 (leb-true 0x12 (number_of r) e)))
     by false e = g (moved true (lt-ltb (number_of r) 0x12 (leb-false 0x12 (number_of r) e)))
 
+-- it stands in the map at the next place, and after the last at the first
+pub next_in : (r : Register) → get_or register_map ((number_of r + 1) % 19) Seconds ≡ next_pointer r
+next_in r = number_one _ (next_pointer r) (each_register (λ (s : Register). eq (number_of (get_or register_map ((number_of s + 1) % 19) Seconds)) (number_of (next_pointer s))) tt r)
+
 -- it is what the next number names, or the first register where that names none
-abbrev pub or_first : Named → Register
-or_first (One r) = r
+abbrev pub or_first : Option Register → Register
+or_first (Some r) = r
 or_first None = Seconds
 
 pub next_named : (r : Register) → or_first (named (number_of r + 1)) ≡ next_pointer r
@@ -127,6 +144,6 @@ next_named r = by (named (number_of r + 1)) (named_names (number_of r + 1))
     at : (b : Bool) → ltb (number_of r) 0x12 ≡ b → (if b then number_of r + 1 else 0) ≡ number_of (next_pointer r)
     at b e = ap (λ (x : Bool). if x then number_of r + 1 else 0) (sym e) ∙ next_moved r
 
-    by : (d : Named) → Names (number_of r + 1) d → or_first d ≡ next_pointer r
-    by (One s) e = let z = number_below s in number_one s (next_pointer r) (e ∙ at true (lt-ltb (number_of r) 0x12 (omega arith)))
+    by : (d : Option Register) → Names (number_of r + 1) d → or_first d ≡ next_pointer r
+    by (Some s) e = let z = number_below s in number_one s (next_pointer r) (e ∙ at true (lt-ltb (number_of r) 0x12 (omega arith)))
     by None h = number_one Seconds (next_pointer r) (at false (le-ltb (number_of r) 0x12 (omega arith)))

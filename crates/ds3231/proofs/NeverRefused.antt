@@ -11,18 +11,17 @@ use lib.Dec.{leb, eqb}
 use lib.IntN.{ℤ, pos, negsuc}
 use lib.ListN.{length, get_or, replicate}
 use lib.Signed.{shr_z}
-use Rattle.refusals.specs.Numbered.{Numbered, accepted, refused, and_then}
-use Rattle.std.specs.Prelude.{if◌then◌else◌}
+use Rattle.refusals.specs.Numbered.{Numbered, accepted, refused, and_then, some_or}
+use Rattle.refusals.proofs.Lossless.{some_or_lossless}
+use Rattle.std.specs.Prelude.{if◌then◌else◌, Option, Some, None}
 use Rattle.computed.specs.Entries.{entry}
 use Rattle.computed.proofs.Choice.{chosen}
 use Rattle.computed.proofs.Claim.{le, each}
 use Rattle.calendar.specs.Stated.{InRange, checked_seconds, time_of}
-use Rattle.calendar.specs.Answers.{from_seconds_answer}
-use Rattle.calendar.specs.declared.FromSecondsResult as FromSecondsResult
+use Rattle.calendar.specs.declared.DateTime.{DateTime}
 use Rattle.calendar.proofs.Laws.{seconds_accepted, time_in_range}
-use Rattle.calendar.proofs.Lossless.{from_seconds_lossless}
 use Rattle.fields.proofs.Laws.{time_byte_below}
-use Rattle.ds3231.specs.Types.{Registers, Ds3231, Ds3231Config, Register, Seconds, Minutes, Hours, Weekday, Date, Month, Year, Alarm1Seconds, Alarm1Minutes, Alarm1Hours, Alarm1Day, Alarm2Minutes, Alarm2Hours, Alarm2Day, Control, Status, Aging, TemperatureMsb, TemperatureLsb, Named, One, None}
+use Rattle.ds3231.specs.Types.{Registers, Ds3231, Ds3231Config, Register, Seconds, Minutes, Hours, Weekday, Date, Month, Year, Alarm1Seconds, Alarm1Minutes, Alarm1Hours, Alarm1Day, Alarm2Minutes, Alarm2Hours, Alarm2Day, Control, Status, Aging, TemperatureMsb, TemperatureLsb}
 use Rattle.ds3231.specs.Map.{number_of, Names, named}
 use Rattle.ds3231.specs.Clock.{seconds_at}
 use Rattle.ds3231.specs.Timing.{shown_at}
@@ -42,9 +41,9 @@ asked c a e = ap (λ (x : Bool). and_then (if x then accepted tt else refused 10
 -- the shown seconds of a chip: the check accepts them, `from_seconds_since_2000` gives the date by its contract, and `now` answers that date
 pub record Converted (c : Ds3231) (t : ℕ) : Type 0 where
   pub is_accepted : checked_seconds (seconds_at c.timing.clock t) ≡ accepted tt
-  pub gives_date : (r : FromSecondsResult.FromSecondsResult)
-      → from_seconds_answer r ≡ and_then (checked_seconds (seconds_at c.timing.clock t)) (accepted (time_of (seconds_at c.timing.clock t)))
-      → r ≡ FromSecondsResult.TheVariants.Ok (shown_time c t)
+  pub gives_date : (r : Option DateTime)
+      → some_or 8 r ≡ and_then (checked_seconds (seconds_at c.timing.clock t)) (accepted (time_of (seconds_at c.timing.clock t)))
+      → r ≡ Some (shown_time c t)
   pub is_shown : now_answer c t ≡ accepted (shown_time c t)
 
 pub conversion_never_refused : (c : Ds3231) → sound c ≡ true → (t : ℕ) → Converted c t
@@ -53,7 +52,7 @@ conversion_never_refused c e t =
     let a = seconds_accepted s (seconds_in c.timing.clock t) in
     record {
       is_accepted = a;
-      gives_date = λ r h. from_seconds_lossless r _ (h ∙ ap (λ (v : Numbered (Unit {0})). and_then v (accepted (time_of s))) a);
+      gives_date = λ r h. some_or_lossless 8 r (Some (time_of s)) (h ∙ ap (λ (v : Numbered (Unit {0})). and_then v (accepted (time_of s))) a);
       is_shown = asked c (accepted (shown_time c t)) e;
     }
 
@@ -143,12 +142,12 @@ pub record HasByte (c : Ds3231) (n t : ℕ) : Type 0 where
 pub register_has_byte : (c : Ds3231) → sound c ≡ true → Fitting c.registers → (t n : ℕ) → n ≤ 0x12 → HasByte c n t
 register_has_byte c e f t n h = by (named n) (named_names n) refl
   where
-    by : (d : Named) → Names n d → named n ≡ d → HasByte c n t
-    by (One r) p q =
+    by : (d : Option Register) → Names n d → named n ≡ d → HasByte c n t
+    by (Some r) p q =
         let b = as_before (shown_at c.timing t) c.registers r t ∙ ap (λ (x : ℕ). register_byte_before c x t) p in
         record {
           byte = byte_at (shown_at c.timing t) c.registers r t;
-          answers = asked c (register_byte (named n) c t) e ∙ ap (λ (x : Named). register_byte x c t) q;
+          answers = asked c (register_byte (named n) c t) e ∙ ap (λ (x : Option Register). register_byte x c t) q;
           below = subst IsByte (sym b) (before_below c n t f h);
           before = b;
         }

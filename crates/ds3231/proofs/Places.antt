@@ -6,13 +6,13 @@ use mathlib.Core.List.{List, [], ◌∷◌}
 use mathlib.Core.Path.{◌≡◌, refl, sym, ap, ◌∙◌, subst}
 use borrow.Author.Tests.{le-leb, lt-leb}
 use lib.Dec.{leb, eqb}
-use Rattle.std.specs.Prelude.{if◌then◌else◌}
+use Rattle.std.specs.Prelude.{if◌then◌else◌, Option, Some, None}
 use Rattle.ds3231.specs.Map.{number_of, Names, named}
 use Rattle.ds3231.specs.Timing.{latch, pointed, pointed_by, phase_for}
 use Rattle.ds3231.specs.Changed.{next_pointer}
 use Rattle.ds3231.specs.Calls.{written, has_read, step}
 use Rattle.ds3231.specs.Model.{Stage, unaddressed, awaits_pointer, writes, drops, reads, Accepted, Model, closed_by, latching, standing, pointing, moved_pointer, write_in, is_reads, stage_for, fed}
-use Rattle.ds3231.specs.Types.{Register, Named, One, None}
+use Rattle.ds3231.specs.Types.{Register}
 use Rattle.ds3231.specs.declared.Phase.{Phase}
 use Rattle.ds3231.specs.declared.Phase.TheVariants.{Released, Pointer, Writing, Reading, Ignoring}
 use Rattle.ds3231.specs.declared.Timing.{Timing}
@@ -50,11 +50,11 @@ closed_pointer [] m = refl
 closed_pointer (a ∷ l) m = refl
 
 -- the pointer byte names a register where it is at most 0x12
-pub by_name : (P : Named → Bool → Type 0) (b : ℕ) → ((r : Register) → number_of r ≡ b → P (One r) true) → P None false → P (named b) (leb b 0x12)
+pub by_name : (P : Option Register → Bool → Type 0) (b : ℕ) → ((r : Register) → number_of r ≡ b → P (Some r) true) → P None false → P (named b) (leb b 0x12)
 by_name P b f g = by (named b) (named_names b)
   where
-    by : (d : Named) → Names b d → P d (leb b 0x12)
-    by (One r) e = subst (P (One r)) (sym (le-leb b 0x12 (subst (λ (n : ℕ). n ≤ 0x12) e (number_below r)))) (f r e)
+    by : (d : Option Register) → Names b d → P d (leb b 0x12)
+    by (Some r) e = subst (P (Some r)) (sym (le-leb b 0x12 (subst (λ (n : ℕ). n ≤ 0x12) e (number_below r)))) (f r e)
     by None h = subst (P None) (sym (lt-leb b 0x12 h)) g
 
 write_place : (p : Phase) (b t : ℕ) (c : Ds3231) (m : Model) → Place c.timing m → Place (written p b t c).timing (write_in (stage_of p) b t m)
@@ -62,7 +62,7 @@ write_place Released b t c m w = w
 write_place Reading b t c m w = w
 write_place Ignoring b t c m w = w
 write_place Pointer b t c m w =
-    by_name (λ (d : Named) (x : Bool). Place (pointed_by d c.timing) (if x then standing writes (pointing b m) else standing drops m)) b
+    by_name (λ (d : Option Register) (x : Bool). Place (pointed_by d c.timing) (if x then standing writes (pointing b m) else standing drops m)) b
     (λ r e. record { stage = refl; pointer = sym e }) (record { stage = refl; pointer = w.pointer })
 write_place Writing b t c m w = record { stage = w.stage; pointer = ap moved_pointer w.pointer ∙ next_moved c.timing.pointer }
 

@@ -1,14 +1,14 @@
 -- Power-on gives a sound chip, and every call keeps a sound chip sound.
 -- Assumes nothing.
 use Prim.Native.Nat.{ℕ, ◌≤◌, ◌<◌}
-use mathlib.Core.Bool.{Bool, true, false, ◌&&◌, ◌||◌, false≢true}
+use mathlib.Core.Bool.{Bool, true, false, ◌&&◌}
 use mathlib.Core.List.{List, [], ◌∷◌}
 use mathlib.Core.Path.{◌≡◌, refl}
 use native.Mathlib.Omega.{arith}
 use lib.Dec.{leb, eqb}
 use lib.Bits.{bit_and}
 use Rattle.refusals.specs.Numbered.{Numbered, accepted, refused, unless}
-use Rattle.std.specs.Prelude.{if◌then◌else◌}
+use Rattle.std.specs.Prelude.{if◌then◌else◌, Option, Some, None}
 use Rattle.computed.proofs.Choice.{chosen}
 use Rattle.calendar.specs.Stated.{InRange}
 use Rattle.calendar.proofs.Laws.{time_in_range, seconds_below, nearest_in_range}
@@ -16,12 +16,12 @@ use Rattle.fields.specs.Table.{Meaning, meaning}
 use Rattle.diagnostics.proofs.Counts.{counted_all_in}
 use Rattle.ds3231.specs.Numbers.{range}
 use Rattle.ds3231.specs.Clock.{seconds_at}
-use Rattle.ds3231.specs.Timing.{is_defined, opened, noted, pointed_by, commit, accept}
+use Rattle.ds3231.specs.Timing.{is_defined, opened, found, committed_clock, noted, pointed_by, commit, accept}
 use Rattle.ds3231.specs.Map.{number_of, named}
 use Rattle.ds3231.specs.Registers.{registers_written}
 use Rattle.ds3231.specs.Calls.{in_quarters, sound, chip_on, Step, written, has_read, step, step_chip, Call, bus, taking, chip_by, verdict, chip_after}
 use Rattle.ds3231.specs.Total.{chip_after_all}
-use Rattle.ds3231.specs.Types.{Named, One, None}
+use Rattle.ds3231.specs.Types.{PendingTime, Register}
 use Rattle.ds3231.specs.declared.Clock.{Clock}
 use Rattle.ds3231.specs.declared.Phase.{Phase}
 use Rattle.ds3231.specs.declared.Phase.TheVariants.{Released, Pointer, Writing, Reading, Ignoring}
@@ -32,7 +32,7 @@ use Rattle.ds3231.specs.declared.Event.{Event}
 use Rattle.ds3231.specs.declared.Event.TheVariants.{Start, Write, Read, Stop}
 use Rattle.ds3231.specs.declared.Ds3231Config.{Ds3231Config}
 use Rattle.ds3231.proofs.Masks.{control_clear, status_within}
-use Rattle.ds3231.proofs.Facts.{PendingIn, TimingIn, RegistersIn, Sound, sound_test, sound_fact}
+use Rattle.ds3231.proofs.Facts.{PendingIn, HasPending, TimingIn, RegistersIn, Sound, sound_test, sound_fact}
 use Rattle.ds3231.proofs.Bytes.{MeaningIn, meaning_in, noted_in, offset_in, seconds_in, weekday_shown, time_in}
 
 opened_in : (k : Clock) (t : ℕ) → PendingIn (opened k t)
@@ -44,20 +44,24 @@ opened_in k t =
 
 commit_in : (c : Timing) → TimingIn c → TimingIn (commit c)
 commit_in c h =
-    let k = chosen (λ (k : Clock). (k.base_seconds < range) × (k.weekday_offset ≤ 6)) c.is_pending
-    (λ e. (seconds_below _ (nearest_in_range c.pending.time), offset_in c.pending.weekday _)) (λ e. (h.base, h.offset)) in
-    record { base = k.0; offset = k.1; pending = λ e. absurd (false≢true e) }
+    let k = by c.pending in
+    record { base = k.0; offset = k.1; pending = tt }
+  where
+    by : (q : Option PendingTime) → ((committed_clock q c.pending_at c.clock).base_seconds < range) × ((committed_clock q c.pending_at c.clock).weekday_offset ≤ 6)
+    by (Some p) = (seconds_below _ (nearest_in_range p.time), offset_in p.weekday _)
+    by None = (h.base, h.offset)
 
 accept_in : (m : Meaning) → MeaningIn m → (t : ℕ) (c : Timing) → TimingIn c → TimingIn (accept m t c)
 accept_in m i t c h =
     record { base = h.base; offset = h.offset; pending = by (is_defined m) }
   where
-    found : PendingIn (if c.is_pending then c.pending else opened c.clock t)
-    found = chosen PendingIn c.is_pending h.pending (λ e. opened_in c.clock t)
+    found_in : (q : Option PendingTime) → HasPending q → PendingIn (found q c.clock t)
+    found_in (Some p) f = f
+    found_in None f = opened_in c.clock t
 
-    by : (d : Bool) → (d || c.is_pending) ≡ true → PendingIn (if d then noted m (if c.is_pending then c.pending else opened c.clock t) else c.pending)
-    by true e = noted_in m i _ found
-    by false e = h.pending e
+    by : (d : Bool) → HasPending (if d then Some (noted m (found c.pending c.clock t)) else c.pending)
+    by true = noted_in m i _ (found_in c.pending h.pending)
+    by false = h.pending
 
 -- ---- the other registers
 
@@ -80,8 +84,8 @@ write_in_lem Reading b t c h = (h.timing, h.registers)
 write_in_lem Ignoring b t c h = (h.timing, h.registers)
 write_in_lem Pointer b t c h = (by (named b), h.registers)
   where
-    by : (d : Named) → TimingIn (pointed_by d c.timing)
-    by (One r) = let w = h.timing in record { base = w.base; offset = w.offset; pending = w.pending }
+    by : (d : Option Register) → TimingIn (pointed_by d c.timing)
+    by (Some r) = let w = h.timing in record { base = w.base; offset = w.offset; pending = w.pending }
     by None = let w = h.timing in record { base = w.base; offset = w.offset; pending = w.pending }
 write_in_lem Writing b t c h =
     let r = number_of c.timing.pointer in
@@ -138,7 +142,7 @@ sound_run (k ∷ ks) c e = sound_run ks (chip_after k c) (sound_kept k c e)
 pub on_sound : (f : Ds3231Config) → InRange f.start → in_quarters f.temperature_quarters ≡ true → Sound (chip_on f)
 on_sound f v q =
     record {
-      timing = record { base = seconds_below f.start v; offset = offset_in _ _; pending = λ e. absurd (false≢true e) };
+      timing = record { base = seconds_below f.start v; offset = offset_in _ _; pending = tt };
       registers = record { quarters = q; control = refl; status = chosen (λ x. bit_and x 0x8B ≡ x) f.oscillator_stopped (λ e. refl) (λ e. refl) };
       waiting = omega arith;
     }

@@ -1,13 +1,13 @@
 -- The claim of the exact time is not empty: the case *hour and bad weekday* of document 01, then a burst that sets the time, one that reads 0x00 to 0x06, a taking, a refused call, and a READ that wraps the pointer. Each READ of the time meets the claim's condition, and its byte is given.
 -- Assumes nothing.
 use Prim.Native.Nat.{ℕ, zero, suc, ◌+◌, ◌*◌, ◌/◌, ◌%◌, ◌≤◌, ◌<◌}
-use mathlib.Core.Bool.{Bool, true, false}
+use mathlib.Core.Bool.{Bool, true, false, not, ◌&&◌}
 use mathlib.Core.List.{List, [], ◌∷◌, ◌++◌}
 use mathlib.Core.Path.{◌≡◌, refl, sym, ap, ap₂, ◌∙◌, subst}
 use native.Mathlib.Omega.{arith}
 use borrow.Author.Tests.{le-leb, le-ltb}
-use lib.Dec.{leb, lit<}
-use lib.ListN.{replicate}
+use lib.Dec.{leb, lit<, T, eqb, leb→le}
+use lib.ListN.{replicate, length}
 use Rattle.refusals.specs.Numbered.{accepted, refused}
 use Rattle.std.specs.Prelude.{if◌then◌else◌}
 use Rattle.computed.specs.Entries.{entry}
@@ -25,18 +25,14 @@ use Rattle.ds3231.specs.Numbers.{nanos, range, day}
 use Rattle.ds3231.specs.Calls.{in_quarters, checked_quarters, chip_on, default_config, power_on, replied, Call, bus, taking, lent_store, too_short, verdict}
 use Rattle.ds3231.specs.Model.{reads, Model, exact, date_with, clamped, offset_with, wraps, model_on}
 use Rattle.ds3231.proofs.Follows.{offset_same, offset_gives}
-use Rattle.ds3231.specs.Exact.{events, fully_lent, model_after, after, TimeRead, answer_to}
+use Rattle.ds3231.specs.Exact.{events, fully_lent, model_after, after, TimeRead, answer_to, NeverFall, instant}
 use Rattle.ds3231.specs.declared.Ds3231Config.{Ds3231Config}
 use Rattle.ds3231.specs.declared.Event.{Event}
 use Rattle.ds3231.specs.declared.Event.TheVariants.{Start, Write, Read, Stop}
 use Rattle.ds3231.specs.declared.Reply.TheVariants.{Byte}
 use Rattle.ds3231.proofs.Counting.{whole_count}
-use Rattle.ds3231.specs.Exact.{NeverFall, instant}
 use Rattle.ds3231.proofs.ExactTime.{verdict_is, after_power_on, exact_time}
 use Rattle.computed.proofs.Claim.{first, rest}
-use mathlib.Core.Bool.{not, ◌&&◌}
-use lib.Dec.{T, eqb, leb→le}
-use lib.ListN.{length}
 
 -- ---- the calls
 

@@ -1,6 +1,6 @@
 -- The calls on one chip: what each answers and leaves, in document 01's numbers. Assumes nothing.
 use Rattle.computed.specs.Prelude.{ℕ, Bool, true, false, not, List, [], leb, ltb, eqb, bit_and, length, take, drop, replicate, ℤ, pos, negsuc, le_z}
-use Rattle.std.specs.Prelude.{◌&&◌, ◌||◌, ◌∷◌, ◌++◌, if◌then◌else◌}
+use Rattle.std.specs.Prelude.{◌&&◌, ◌∷◌, ◌++◌, if◌then◌else◌, Option, Some, None}
 use Rattle.refusals.specs.Numbered.{Numbered, accepted, refused, is_accepted, and_then, unless}
 use Rattle.calendar.specs.Stated.{date_time, checked, with_day, weekday_of, month_length}
 use Rattle.calendar.specs.declared.DateTime.{DateTime}
@@ -15,7 +15,7 @@ use Rattle.ds3231.specs.Clock.{time_at, clock_set}
 use Rattle.ds3231.specs.Timing.{is_defined, shown_at, latch, in_phase, pointed, pointed_by, commit, accept, phase_for}
 use Rattle.ds3231.specs.Changed.{next_pointer}
 use Rattle.ds3231.specs.Registers.{byte_at, enables_output, registers_written}
-use Rattle.ds3231.specs.Types.{PendingTime, Seconds, Named, One, None, Phase, Released, Pointer, Writing, Reading, Ignoring, Timing, Registers, Ds3231, Ds3231Config, Event, Start, Write, Read, Stop, Reply, Acknowledge, Byte, Done}
+use Rattle.ds3231.specs.Types.{Clock, PendingTime, Seconds, Phase, Released, Pointer, Writing, Reading, Ignoring, Timing, Registers, Ds3231, Ds3231Config, Event, Start, Write, Read, Stop, Reply, Acknowledge, Byte, Done, Register}
 
 -- ---- sound
 
@@ -26,10 +26,15 @@ sound_time t = is_accepted (checked (with_day 1 t)) && leb 1 t.day && leb t.day 
 unfoldable pub sound_pending : PendingTime → Bool
 sound_pending p = sound_time p.time && leb 1 p.weekday && leb p.weekday 7
 
+-- a pending time, if there is one
+abbrev pub sound_if_pending : Option PendingTime → Bool
+sound_if_pending (Some p) = sound_pending p
+sound_if_pending None = true
+
 -- 'The table of refusals': base seconds in range, offset at most 6, a pending time; the pointer is at most 0x12 by its type (`number_below` of proofs/Map.antt)
 unfoldable pub sound_timing : Timing → Bool
 sound_timing c =
-    ltb c.clock.base_seconds range && leb c.clock.weekday_offset 6 && (not c.is_pending || sound_pending c.pending)
+    ltb c.clock.base_seconds range && leb c.clock.weekday_offset 6 && sound_if_pending c.pending
 
 -- 'Register bytes': the quarters of a degree run from −512 to 511
 unfoldable pub in_quarters : ℤ → Bool
@@ -46,10 +51,12 @@ sound c = sound_timing c.timing && sound_registers c.registers && leb c.diagnost
 
 -- ---- power-on
 
--- 'Register bytes': power-on has pointer 0 and 24-hour mode; 'Shown time and exact time': the configured seconds at instant 0, where the time is latched; the weekday offset is 5 (`power_on_offset` of proofs/ExactTime.antt). Document 01 leaves free what `pending` and `pending_at` hold: no call shows it
+-- 'Register bytes': power-on has pointer 0 and 24-hour mode; 'Shown time and exact time': the configured seconds at instant 0, where the time is latched; the weekday offset is 5 (`power_on_offset` of proofs/ExactTime.antt). Document 01 leaves free what `pending_at` holds: no call shows it
+abbrev pub timing_from : Clock → Timing
+timing_from k = latch 0 (record { phase = Released; pointer = Seconds; clock = k; twelve_hour = false; latched = []; pending = None; pending_at = 0 })
+
 abbrev pub timing_on : Ds3231Config → Timing
-timing_on f =
-    latch 0 (record { phase = Released; pointer = Seconds; clock = clock_set f.start (weekday_of f.start) 0; twelve_hour = false; latched = []; is_pending = false; pending = record { time = f.start; weekday = 1 }; pending_at = 0 })
+timing_on f = timing_from (clock_set f.start (weekday_of f.start) 0)
 
 -- 'Register bytes': control 0x1C, status 0x08, or 0x88 where the oscillator had stopped; alarms and aging 0
 abbrev pub registers_on : Ds3231Config → Registers
@@ -57,7 +64,7 @@ registers_on f = record {
   alarms = replicate 7 0;
   control = 0x1C;
   status = if f.oscillator_stopped then 0x88 else 0x08;
-  conversion_end = 0;
+  conversion_end = None;
   aging = 0;
   temperature_quarters = f.temperature_quarters;
   int_sqw_reported = false;
@@ -96,8 +103,8 @@ abbrev pub dropped_answer : Ds3231 → Numbered ℕ
 dropped_answer c = and_then (checked_chip c) (accepted c.diagnostics.dropped)
 
 -- 'Register bytes': `register` uses the live time; 'The table of refusals': 9, `register` above 0x12
-abbrev pub register_byte : Named → Ds3231 → ℕ → Numbered ℕ
-register_byte (One r) c t = accepted (byte_at (shown_at c.timing t) c.registers r t)
+abbrev pub register_byte : Option Register → Ds3231 → ℕ → Numbered ℕ
+register_byte (Some r) c t = accepted (byte_at (shown_at c.timing t) c.registers r t)
 register_byte None c t = refused 9 []
 
 -- 'The table of refusals': `register` 10, 9
@@ -114,15 +121,16 @@ pub record Step : Type 0 where
   pub reply : Reply
 
 -- 'Diagnostics': UNDEFINED, at commit 0x04 and the day as digits
-abbrev pub commit_reports : ℕ → Timing → List I2cDiagnostic
-commit_reports t c =
-    if c.is_pending && ltb (month_length c.pending.time.year c.pending.time.month) c.pending.time.day
-    then report t (Undefined 0x04 (to_digits c.pending.time.day)) ∷ []
+abbrev pub commit_reports : ℕ → Option PendingTime → List I2cDiagnostic
+commit_reports t (Some p) =
+    if ltb (month_length p.time.year p.time.month) p.time.day
+    then report t (Undefined 0x04 (to_digits p.time.day)) ∷ []
     else []
+commit_reports t None = []
 
 -- 'Diagnostics': NOREGISTER (pointer byte)
-abbrev pub pointer_reports : Named → ℕ → ℕ → List I2cDiagnostic
-pointer_reports (One r) b t = []
+abbrev pub pointer_reports : Option Register → ℕ → ℕ → List I2cDiagnostic
+pointer_reports (Some r) b t = []
 pointer_reports None b t = report t (NoSuchRegister b) ∷ []
 
 -- 'Diagnostics': UNDEFINED (register, byte), NOTMODELLED (control byte) once per power-on, READONLY (0x11, 0x12); r is a register's number, at most 0x12
@@ -142,7 +150,7 @@ abbrev pub started : ℕ → Bool → ℕ → Ds3231 → Step
 started a r t c = record {
   timing = in_phase (phase_for a r) (latch t (commit c.timing));
   registers = c.registers;
-  reports = commit_reports t c.timing;
+  reports = commit_reports t c.timing.pending;
   reply = Acknowledge (eqb a 0x68);
 }
 
@@ -182,7 +190,7 @@ abbrev pub stopped : ℕ → Ds3231 → Step
 stopped t c = record {
   timing = in_phase Released (commit c.timing);
   registers = c.registers;
-  reports = commit_reports t c.timing;
+  reports = commit_reports t c.timing.pending;
   reply = Done;
 }
 

@@ -1,7 +1,9 @@
 -- The register map: the number of each register, and what a number names. Assumes nothing.
 use Rattle.computed.specs.Prelude.{ℕ, List, [], eqb}
-use Rattle.std.specs.Prelude.{◌<◌, ◌∷◌, ◌≡◌, if◌then◌else◌}
-use Rattle.ds3231.specs.Types.{Register, Seconds, Minutes, Hours, Weekday, Date, Month, Year, Alarm1Seconds, Alarm1Minutes, Alarm1Hours, Alarm1Day, Alarm2Minutes, Alarm2Hours, Alarm2Day, Control, Status, Aging, TemperatureMsb, TemperatureLsb, Named, One, None}
+use Rattle.std.specs.Prelude.{◌<◌, ◌∷◌, ◌≡◌, if◌then◌else◌, Option, Some, None}
+use Rattle.refusals.specs.Numbered.{Row}
+use Rattle.ds3231.specs.declared.pointer.NoSuchRegister.{NoSuchRegister}
+use Rattle.ds3231.specs.Types.{Register, Seconds, Minutes, Hours, Weekday, Date, Month, Year, Alarm1Seconds, Alarm1Minutes, Alarm1Hours, Alarm1Day, Alarm2Minutes, Alarm2Hours, Alarm2Day, Control, Status, Aging, TemperatureMsb, TemperatureLsb}
 
 -- 'Register bytes': 0x00 to 0x06 are seconds, minutes, hours, weekday, date, month, year; 0x07 to 0x0D hold alarm bytes; 0x0E control, 0x0F status, 0x10 aging, 0x11 and 0x12 temperature. No register's number is above 0x12 (`number_below` of proofs/Map.antt)
 abbrev pub number_of : Register → ℕ
@@ -26,8 +28,8 @@ number_of TemperatureMsb = 0x11
 number_of TemperatureLsb = 0x12
 
 -- what a number names: the register of that number, or none where it is above 0x12
-abbrev pub Names : ℕ → Named → Type 0
-Names n (One r) = number_of r ≡ n
+abbrev pub Names : ℕ → Option Register → Type 0
+Names n (Some r) = number_of r ≡ n
 Names n None = 0x12 < n
 
 -- the registers in the order of their numbers
@@ -38,9 +40,16 @@ register_map =
     ∷ Control ∷ Status ∷ Aging ∷ TemperatureMsb ∷ TemperatureLsb ∷ []
 
 -- what a number names, as it is computed: the first register of the map with that number, or none. `named_names` and `names_one` of proofs/Map.antt: the number names it, and nothing else
-abbrev pub named_in : List Register → ℕ → Named
+abbrev pub named_in : List Register → ℕ → Option Register
 named_in [] n = None
-named_in (r ∷ rs) n = if eqb n (number_of r) then One r else named_in rs n
+named_in (r ∷ rs) n = if eqb n (number_of r) then Some r else named_in rs n
 
-unfoldable pub named : ℕ → Named
+unfoldable pub named : ℕ → Option Register
 named n = named_in register_map n
+
+-- a number that names none, and 'The table of refusals': 9
+abbrev pub no_register : ℕ → NoSuchRegister
+no_register n = record { number = n }
+
+abbrev pub register_row : NoSuchRegister → Row
+register_row e = record { number = 9; values = [] }

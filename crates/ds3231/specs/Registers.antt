@@ -1,11 +1,15 @@
 -- The byte of a register, and the registers outside the time, 0x07 to 0x12: their bytes, and what a write does to them. Assumes nothing.
-use Rattle.computed.specs.Prelude.{ℕ, min, Bool, not, List, leb, ltb, eqb, bit_and, bit_or, entry, set, ℤ, pos, negsuc, shr_z}
-use Rattle.std.specs.Prelude.{◌+◌, ◌*◌, ◌-◌, ◌%◌, ◌&&◌, ◌||◌, if◌then◌else◌}
+use Rattle.computed.specs.Prelude.{ℕ, min, Bool, false, not, List, leb, ltb, eqb, bit_and, bit_or, entry, set, ℤ, pos, negsuc, shr_z}
+use Rattle.std.specs.Prelude.{◌+◌, ◌*◌, ◌-◌, ◌%◌, ◌&&◌, ◌||◌, if◌then◌else◌, Option, Some, None}
 use Rattle.ds3231.specs.Types.{Registers, Register, Seconds, Minutes, Hours, Weekday, Date, Month, Year, Alarm1Seconds, Alarm1Minutes, Alarm1Hours, Alarm1Day, Alarm2Minutes, Alarm2Hours, Alarm2Day, Control, Status, Aging, TemperatureMsb, TemperatureLsb}
 
 -- 'Register bytes': a conversion runs while the instant is below its end
+abbrev pub runs_at : Option ℕ → ℕ → Bool
+runs_at (Some end) t = ltb t end
+runs_at None t = false
+
 abbrev pub converting : Registers → ℕ → Bool
-converting g t = ltb t g.conversion_end
+converting g t = runs_at g.conversion_end t
 
 -- the low eight bits of a signed number
 abbrev pub low_byte : ℤ → ℕ
@@ -59,7 +63,7 @@ control_written b t g = record {
   alarms = g.alarms;
   control = bit_and b 0xDF;
   status = g.status;
-  conversion_end = if starts_conversion b t g then min (t + 200_000_000) 0xFFFF_FFFF_FFFF_FFFF else g.conversion_end;
+  conversion_end = if starts_conversion b t g then Some (min (t + 200_000_000) 0xFFFF_FFFF_FFFF_FFFF) else g.conversion_end;
   aging = g.aging;
   temperature_quarters = g.temperature_quarters;
   int_sqw_reported = enables_output b || g.int_sqw_reported;

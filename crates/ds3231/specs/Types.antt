@@ -3,8 +3,6 @@ pub use Rattle.ds3231.specs.declared.Clock.{Clock}
 pub use Rattle.ds3231.specs.declared.PendingTime.{PendingTime}
 pub use Rattle.ds3231.specs.declared.Register.{Register}
 pub use Rattle.ds3231.specs.declared.Register.TheVariants.{Seconds, Minutes, Hours, Weekday, Date, Month, Year, Alarm1Seconds, Alarm1Minutes, Alarm1Hours, Alarm1Day, Alarm2Minutes, Alarm2Hours, Alarm2Day, Control, Status, Aging, TemperatureMsb, TemperatureLsb}
-pub use Rattle.ds3231.specs.declared.Named.{Named}
-pub use Rattle.ds3231.specs.declared.Named.TheVariants.{One, None}
 pub use Rattle.ds3231.specs.declared.Phase.{Phase}
 pub use Rattle.ds3231.specs.declared.Phase.TheVariants.{Released, Pointer, Writing, Reading, Ignoring}
 pub use Rattle.ds3231.specs.declared.Timing.{Timing}

@@ -1,5 +1,5 @@
-// The DS3231 real-time clock: its structs, the bus events and their replies. What its calls mean, document 01's model, the
-// exact time and the report total are definitions and theorems. Its one function makes the default configuration.
+// The DS3231 real-time clock: its structs, the bus events and their replies, and the register map (module `pointer`). What its
+// calls mean, document 01's model, the exact time and the report total are definitions and theorems.
 // To read it: of specs/ `Numbers`, `Map`, `Clock`, `Timing`, `Registers`, `Calls`, then `Model`, `Exact` and `Total`; `Changed`
 // has the parts that chip and model say each for itself. docs/EXACT-TIME.md says the theorem in plain words; its proof is
 // `proofs/ExactTime.antt`, and `proofs/Witness.antt` shows that it is not empty.
@@ -11,9 +11,13 @@ ghost use Rattle.ds3231.specs.Calls.{default_config};
 use calendar::DateTime;
 use diagnostics::Diagnostics;
 
+mod pointer;
+
+pub use pointer::NoSuchRegister;
+
 // The running clock: the seconds since 2000 at an instant at which a second of the clock began, and the offset that gives
 // the weekday from the day number.
-#[derive(Clone, Copy)]
+#[derive(Clone, Copy, Debug, PartialEq, Eq)]
 pub struct Clock {
     pub base_seconds: u64,
     pub base_at: u64,
@@ -21,45 +25,38 @@ pub struct Clock {
 }
 
 // The time registers written in the transaction under way, applied when it ends. Its day may not fit its month until then.
-#[derive(Clone, Copy)]
+#[derive(Clone, Copy, Debug)]
 pub struct PendingTime {
     pub time: DateTime,
     pub weekday: u8,
 }
 
 // The register map, 0x00 to 0x12. A pointer is one of these, so that a chip has no pointer past the last.
-#[derive(Clone, Copy)]
+#[derive(Clone, Copy, Debug, PartialEq, Eq)]
 pub enum Register {
-    Seconds,
-    Minutes,
-    Hours,
-    Weekday,
-    Date,
-    Month,
-    Year,
-    Alarm1Seconds,
-    Alarm1Minutes,
-    Alarm1Hours,
-    Alarm1Day,
-    Alarm2Minutes,
-    Alarm2Hours,
-    Alarm2Day,
-    Control,
-    Status,
-    Aging,
-    TemperatureMsb,
-    TemperatureLsb,
-}
-
-// What a number names: a register, or none where it is above 0x12.
-#[derive(Clone, Copy)]
-pub enum Named {
-    One(Register),
-    None,
+    Seconds = 0x00,
+    Minutes = 0x01,
+    Hours = 0x02,
+    Weekday = 0x03,
+    Date = 0x04,
+    Month = 0x05,
+    Year = 0x06,
+    Alarm1Seconds = 0x07,
+    Alarm1Minutes = 0x08,
+    Alarm1Hours = 0x09,
+    Alarm1Day = 0x0A,
+    Alarm2Minutes = 0x0B,
+    Alarm2Hours = 0x0C,
+    Alarm2Day = 0x0D,
+    Control = 0x0E,
+    Status = 0x0F,
+    Aging = 0x10,
+    TemperatureMsb = 0x11,
+    TemperatureLsb = 0x12,
 }
 
 // Where the chip stands in the transaction on the bus.
-#[derive(Clone, Copy)]
+#[derive(Clone, Copy, Debug, PartialEq, Eq)]
 pub enum Phase {
     // Not addressed.
     Released,
@@ -73,35 +70,33 @@ pub enum Phase {
     Ignoring,
 }
 
-// What keeps the time and follows the bus. `pending` and `pending_at` count only while `is_pending`: a second of the pending
-// time begins at the instant `pending_at`.
-#[derive(Clone, Copy)]
+// What keeps the time and follows the bus. A second of the pending time begins at the instant `pending_at`, which counts only
+// where there is one: inside the pending time it was measured, and setting the time was slower than the Rust.
+#[derive(Clone, Copy, Debug)]
 pub struct Timing {
     pub phase: Phase,
     pub pointer: Register,
     pub clock: Clock,
     pub twelve_hour: bool,
     pub latched: [u8; 7],
-    pub is_pending: bool,
-    pub pending: PendingTime,
+    pub pending: Option<PendingTime>,
     pub pending_at: u64,
 }
 
 // The registers outside the time: control without bit 5 and status without bit 2, which read set while a conversion runs.
-// `conversion_end` is 0 where there was none: no instant is below it.
-#[derive(Clone, Copy)]
+#[derive(Clone, Copy, Debug)]
 pub struct Registers {
     pub alarms: [u8; 7],
     pub control: u8,
     pub status: u8,
-    pub conversion_end: u64,
+    pub conversion_end: Option<u64>,
     pub aging: u8,
     pub temperature_quarters: i16,
     pub int_sqw_reported: bool,
 }
 
 // The DS3231 on an I2C bus. Its diagnostics wait in a store that each call is lent.
-#[derive(Clone, Copy)]
+#[derive(Clone, Copy, Debug)]
 pub struct Ds3231 {
     pub timing: Timing,
     pub registers: Registers,
@@ -109,18 +104,18 @@ pub struct Ds3231 {
 }
 
 // What the clock holds at power-on.
-#[derive(Clone, Copy)]
+#[derive(Clone, Copy, Debug, PartialEq, Eq)]
 pub struct Ds3231Config {
     pub start: DateTime,
     pub oscillator_stopped: bool,
     pub temperature_quarters: i16,
 }
 
-impl Ds3231Config {
-    // 2026-01-01T00:00:00, oscillator not stopped, 100 quarters.
-    pub fn default() -> Ds3231Config
-        ensures { result ≡ default_config }
-    {
+// 2026-01-01T00:00:00, oscillator not stopped, 100 quarters.
+impl Default for Ds3231Config {
+    ghost is_default = { λ f. f ≡ default_config };
+
+    fn default() -> Ds3231Config {
         let start = DateTime {
             year: 2026,
             month: 1,
@@ -138,7 +133,7 @@ impl Ds3231Config {
 }
 
 // A bus event, with its instant.
-#[derive(Clone, Copy)]
+#[derive(Clone, Copy, Debug, PartialEq, Eq)]
 pub enum Event {
     Start { address: u8, read: bool, at: u64 },
     Write { byte: u8, at: u64 },
@@ -147,7 +142,7 @@ pub enum Event {
 }
 
 // What a bus event answers: START and WRITE an acknowledge, READ a byte.
-#[derive(Clone, Copy)]
+#[derive(Clone, Copy, Debug, PartialEq, Eq)]
 pub enum Reply {
     Acknowledge(bool),
     Byte(u8),

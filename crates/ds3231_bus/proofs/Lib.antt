@@ -1,4 +1,3 @@
 pub mod Lossless
-pub mod OutcomeLaws
-pub mod TakingLaws
 pub mod SoundLaws
+pub mod TakingLaws

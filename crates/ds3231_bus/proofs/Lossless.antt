@@ -1,46 +1,44 @@
 -- The numbered answers of the bus calls and of taking lose nothing: each answer can be read back.
 -- Assumes nothing.
+use Prim.Native.Nat.{ℕ}
 use mathlib.Core.Path.{◌≡◌, refl}
 use lib.Dec.{eqb}
+use Rattle.std.specs.Prelude.{if◌then◌else◌, Result, Ok, Err}
 use Rattle.refusals.specs.Numbered.{Numbered, accepted, refused}
-use Rattle.std.specs.Prelude.{if◌then◌else◌}
 use Rattle.computed.proofs.Lossless.{lossless}
+use Rattle.diagnostics.specs.declared.LentError.{LentError}
+use Rattle.diagnostics.specs.declared.LentError.TheVariants as Lent
 use Rattle.ds3231.specs.Calls.{Answered, replied, copied}
+use Rattle.ds3231.specs.declared.Reply.{Reply}
 use Rattle.ds3231_bus.specs.Answers.{bus_numbered, take_numbered}
-use Rattle.ds3231_bus.specs.declared.BusAnswer as BusAnswer
-use Rattle.ds3231_bus.specs.declared.TakeAnswer as TakeAnswer
+use Rattle.ds3231_bus.specs.declared.takings.TakeError.{TakeError}
+use Rattle.ds3231_bus.specs.declared.takings.TakeError.TheVariants.{NotSound, StoreLength, OutTooShort}
 
 -- the bus calls
-abbrev bus_of_answered : Answered → BusAnswer.BusAnswer
-bus_of_answered (replied y) = BusAnswer.TheVariants.Replied y
-bus_of_answered (copied n) = BusAnswer.TheVariants.NotSound
+abbrev bus_of : Numbered Answered → Result Reply LentError
+bus_of (accepted (replied y)) = Ok y
+bus_of (accepted (copied n)) = Err Lent.NotSound
+bus_of (refused n vs) = Err (if eqb n 10 then Lent.NotSound else Lent.StoreLength)
 
-abbrev bus_of : Numbered Answered → BusAnswer.BusAnswer
-bus_of (accepted a) = bus_of_answered a
-bus_of (refused n vs) = if eqb n 10 then BusAnswer.TheVariants.NotSound else BusAnswer.TheVariants.StoreLength
+bus_back : (a : Result Reply LentError) → bus_of (bus_numbered a) ≡ a
+bus_back (Ok y) = refl
+bus_back (Err Lent.NotSound) = refl
+bus_back (Err Lent.StoreLength) = refl
 
-bus_back : (a : BusAnswer.BusAnswer) → bus_of (bus_numbered a) ≡ a
-bus_back (BusAnswer.TheVariants.Replied y) = refl
-bus_back BusAnswer.TheVariants.NotSound = refl
-bus_back BusAnswer.TheVariants.StoreLength = refl
-
-pub bus_lossless : (a b : BusAnswer.BusAnswer) → bus_numbered a ≡ bus_numbered b → a ≡ b
+pub bus_lossless : (a b : Result Reply LentError) → bus_numbered a ≡ bus_numbered b → a ≡ b
 bus_lossless = lossless bus_numbered bus_of bus_back
 
 -- taking
-abbrev take_of_answered : Answered → TakeAnswer.TakeAnswer
-take_of_answered (replied y) = TakeAnswer.TheVariants.Taken 0
-take_of_answered (copied n) = TakeAnswer.TheVariants.Taken n
+abbrev take_of : Numbered Answered → Result ℕ TakeError
+take_of (accepted (replied y)) = Ok 0
+take_of (accepted (copied n)) = Ok n
+take_of (refused n vs) = Err (if eqb n 10 then NotSound else if eqb n 11 then StoreLength else OutTooShort)
 
-abbrev take_of : Numbered Answered → TakeAnswer.TakeAnswer
-take_of (accepted a) = take_of_answered a
-take_of (refused n vs) = if eqb n 10 then TakeAnswer.TheVariants.NotSound else if eqb n 11 then TakeAnswer.TheVariants.StoreLength else TakeAnswer.TheVariants.OutTooShort
+take_back : (a : Result ℕ TakeError) → take_of (take_numbered a) ≡ a
+take_back (Ok n) = refl
+take_back (Err NotSound) = refl
+take_back (Err StoreLength) = refl
+take_back (Err OutTooShort) = refl
 
-take_back : (a : TakeAnswer.TakeAnswer) → take_of (take_numbered a) ≡ a
-take_back (TakeAnswer.TheVariants.Taken n) = refl
-take_back TakeAnswer.TheVariants.NotSound = refl
-take_back TakeAnswer.TheVariants.StoreLength = refl
-take_back TakeAnswer.TheVariants.OutTooShort = refl
-
-pub take_lossless : (a b : TakeAnswer.TakeAnswer) → take_numbered a ≡ take_numbered b → a ≡ b
+pub take_lossless : (a b : Result ℕ TakeError) → take_numbered a ≡ take_numbered b → a ≡ b
 take_lossless = lossless take_numbered take_of take_back

@@ -1,107 +1,114 @@
 // The DS3231 as a target on the bus: the public calls take the chip by mutable reference and a lent store of 256 records.
 // Each is thin: it copies the chip out, asks a function by value what the call leaves (`outcomes`, `takings`), and stores
-// that; a report goes to the store by `diagnostics::post`. `I2cTarget` is a trait in the Rust; here its four calls are free functions.
+// that; a report goes to the store by `diagnostics::post`. A refusal leaves chip, store and output as they are.
 #![tactic(auto)]
 
+ghost use Rattle.std.specs.Prelude.{List, Result};
+ghost use Rattle.diagnostics.specs.declared.I2cDiagnostic.{I2cDiagnostic as Record};
+ghost use Rattle.diagnostics.specs.declared.LentError.{LentError as Refused};
+ghost use Rattle.ds3231.specs.declared.Event.{Event as BusEvent};
 ghost use Rattle.ds3231.specs.declared.Event.TheVariants.{Start, Write, Read, Stop};
+ghost use Rattle.ds3231.specs.declared.Reply.{Reply as Answer};
 ghost use Rattle.ds3231_bus.specs.Answers.{Called, Took};
 
-use diagnostics::{I2cDiagnostic, post};
-use ds3231::{Ds3231, Reply};
+use diagnostics::{I2cDiagnostic, LentError, post};
+use ds3231::{Ds3231, Event, Reply};
 
 mod outcomes;
 mod takings;
 
-// What a bus call answers: the event's reply, or a refusal.
-#[derive(Clone, Copy)]
-pub enum BusAnswer {
-    Replied(Reply),
-    NotSound,
-    // The store does not have 256 records.
-    StoreLength,
+pub use takings::TakeError;
+
+// A target on the I2C bus, which reports into a lent store.
+pub trait I2cTarget {
+    // What an event on the target and the store answers, and leaves of both.
+    ghost called: { BusEvent → Self → List Record → Result Answer Refused → Self → List Record → Type 0 };
+
+    // START: it ends the transaction before it and latches the time, whomever it addresses.
+    fn address(
+        &mut self,
+        store: &mut [I2cDiagnostic],
+        address: u8,
+        read: bool,
+        at: u64,
+    ) -> Result<Reply, LentError>
+        ensures { called (Start address read at) self.old store.old result self.new store.new };
+
+    // WRITE: the pointer, or a byte to the register at the pointer.
+    fn write(&mut self, store: &mut [I2cDiagnostic], byte: u8, at: u64) -> Result<Reply, LentError>
+        ensures { called (Write byte at) self.old store.old result self.new store.new };
+
+    // READ: the byte at the pointer, 0xFF where the target is not addressed for reading. It reports nothing.
+    fn read(
+        &mut self,
+        store: &mut [I2cDiagnostic],
+        acknowledged: bool,
+        at: u64,
+    ) -> Result<Reply, LentError>
+        ensures { called (Read acknowledged at) self.old store.old result self.new store.new };
+
+    // STOP: it ends the transaction.
+    fn stop(&mut self, store: &mut [I2cDiagnostic], at: u64) -> Result<Reply, LentError>
+        ensures { called (Stop at) self.old store.old result self.new store.new };
 }
 
-// What taking answers: how many records it copied.
-#[derive(Clone, Copy)]
-pub enum TakeAnswer {
-    Taken(usize),
-    NotSound,
-    // The store does not have 256 records.
-    StoreLength,
-    // Fewer records are lent than wait.
-    OutTooShort,
+impl I2cTarget for Ds3231 {
+    ghost called = { Called };
+
+    fn address(
+        &mut self,
+        store: &mut [I2cDiagnostic],
+        address: u8,
+        read: bool,
+        at: u64,
+    ) -> Result<Reply, LentError> {
+        call(self, store, Event::Start { address, read, at })
+    }
+
+    fn write(
+        &mut self,
+        store: &mut [I2cDiagnostic],
+        byte: u8,
+        at: u64,
+    ) -> Result<Reply, LentError> {
+        call(self, store, Event::Write { byte, at })
+    }
+
+    fn read(
+        &mut self,
+        store: &mut [I2cDiagnostic],
+        acknowledged: bool,
+        at: u64,
+    ) -> Result<Reply, LentError> {
+        call(self, store, Event::Read { acknowledged, at })
+    }
+
+    fn stop(&mut self, store: &mut [I2cDiagnostic], at: u64) -> Result<Reply, LentError> {
+        call(self, store, Event::Stop { at })
+    }
 }
 
-// START: it ends the transaction before it and latches the time, whomever it addresses.
-pub fn address(
-    chip: &mut Ds3231,
-    store: &mut [I2cDiagnostic],
-    address: u8,
-    read: bool,
-    at: u64,
-) -> BusAnswer
-    ensures { Called (Start address read at) chip.old store.old result chip.new store.new }
+// An event on a lent chip and a lent store.
+fn call(chip: &mut Ds3231, store: &mut [I2cDiagnostic], event: Event) -> Result<Reply, LentError>
+    ensures { Called event chip.old store.old result chip.new store.new }
 {
-    let c = *chip;
-    let out = outcomes::addressed(c, store.len(), address, read, at);
+    let out = outcomes::called(*chip, store.len(), event)?;
     *chip = out.chip;
     post(store, out.posting);
-    out.answer
+    Ok(out.reply)
 }
 
-// WRITE: the pointer, or a byte to the register at the pointer.
-pub fn write(chip: &mut Ds3231, store: &mut [I2cDiagnostic], byte: u8, at: u64) -> BusAnswer
-    ensures { Called (Write byte at) chip.old store.old result chip.new store.new }
-{
-    let c = *chip;
-    let out = outcomes::written(c, store.len(), byte, at);
-    *chip = out.chip;
-    post(store, out.posting);
-    out.answer
-}
-
-// READ: the byte at the pointer, 0xFF where the chip is not addressed for reading. It reports nothing.
-pub fn read(
-    chip: &mut Ds3231,
-    store: &mut [I2cDiagnostic],
-    acknowledged: bool,
-    at: u64,
-) -> BusAnswer
-    ensures { Called (Read acknowledged at) chip.old store.old result chip.new store.new }
-{
-    let c = *chip;
-    let out = outcomes::has_read(c, store.len(), acknowledged, at);
-    *chip = out.chip;
-    out.answer
-}
-
-// STOP: it ends the transaction.
-pub fn stop(chip: &mut Ds3231, store: &mut [I2cDiagnostic], at: u64) -> BusAnswer
-    ensures { Called (Stop at) chip.old store.old result chip.new store.new }
-{
-    let c = *chip;
-    let out = outcomes::stopped(c, store.len(), at);
-    *chip = out.chip;
-    post(store, out.posting);
-    out.answer
-}
-
-// Taking: the records that wait, oldest first, go to the front of `out`, and the store fills again from its start.
+// Taking: the records that wait, oldest first, go to the front of `out`, and the store fills again from its start. It answers
+// how many there are.
 pub fn take_diagnostics(
     chip: &mut Ds3231,
     store: &[I2cDiagnostic],
     out: &mut [I2cDiagnostic],
-) -> TakeAnswer
+) -> Result<usize, TakeError>
     ensures { Took chip.old store.now out.old result chip.new store.now out.new }
 {
-    let c = *chip;
-    let taking = takings::taken(c, store.len(), out.len());
+    let taking = takings::taken(*chip, store.len(), out.len())?;
     *chip = taking.chip;
-    let n = taking.count;
-    let mut i = 0;
-    while i < n {
-        out[i] = store[i];
-        i += 1;
-    }
-    taking.answer
+    out[..taking.count].copy_from_slice(&store[..taking.count]);
+    Ok(taking.count)
 }

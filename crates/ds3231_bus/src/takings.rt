@@ -1,53 +1,72 @@
-// What taking leaves, by value: the chip, the answer, and how many records are copied.
+// What taking leaves, by value: the chip, and how many records are copied.
 ghost use Rattle.std.specs.Prelude.{◌≡◌};
+ghost use Rattle.ds3231_bus.specs.Answers.{take_row, taken_refusal};
 ghost use Rattle.ds3231_bus.specs.ByValue.{TookOnStores};
 
-use crate::TakeAnswer;
-use diagnostics::{Diagnostics, MAX_DIAGNOSTICS};
+use diagnostics::{Diagnostics, LentError};
 use ds3231::Ds3231;
-use ds3231_chip::is_sound;
+use ds3231_chip::checked_lent;
+use refusals::Refusal;
+use thiserror::Error;
+
+// Why taking is refused.
+#[derive(Clone, Copy, Debug, PartialEq, Eq, Error)]
+pub enum TakeError {
+    #[error("the chip is not sound")]
+    NotSound,
+    #[error("the store does not have 256 records")]
+    StoreLength,
+    #[error("fewer records are lent than wait")]
+    OutTooShort,
+}
+
+impl Refusal for TakeError {
+    ghost row = { take_row };
+
+    fn number(&self) -> u8 {
+        match self {
+            TakeError::NotSound => 10,
+            TakeError::StoreLength => 11,
+            TakeError::OutTooShort => 12,
+        }
+    }
+}
+
+impl From<LentError> for TakeError {
+    ghost from_gives = { λ d e. e ≡ taken_refusal d };
+
+    fn from(error: LentError) -> TakeError {
+        match error {
+            LentError::NotSound => TakeError::NotSound,
+            LentError::StoreLength => TakeError::StoreLength,
+        }
+    }
+}
 
 #[derive(Clone, Copy)]
 pub(crate) struct Taking {
     pub(crate) chip: Ds3231,
-    pub(crate) answer: TakeAnswer,
     pub(crate) count: usize,
 }
 
 // Taking from a store of `len` records into an output of `room`.
-pub(crate) fn taken(chip: Ds3231, len: usize, room: usize) -> Taking
+pub(crate) fn taken(chip: Ds3231, len: usize, room: usize) -> Result<Taking, TakeError>
     ensures { TookOnStores chip len room result }
 {
-    if !is_sound(chip) {
-        return refused(chip, TakeAnswer::NotSound);
-    }
-    if len != MAX_DIAGNOSTICS {
-        return refused(chip, TakeAnswer::StoreLength);
-    }
+    checked_lent(chip, len)?;
     let counts = chip.diagnostics;
     if room < counts.waiting {
-        return refused(chip, TakeAnswer::OutTooShort);
+        return Err(TakeError::OutTooShort);
     }
-    let none_wait = Diagnostics {
-        waiting: 0,
-        dropped: counts.dropped,
+    let emptied = Ds3231 {
+        diagnostics: Diagnostics {
+            waiting: 0,
+            ..counts
+        },
+        ..chip
     };
-    let mut emptied = chip;
-    emptied.diagnostics = none_wait;
-    Taking {
+    Ok(Taking {
         chip: emptied,
-        answer: TakeAnswer::Taken(counts.waiting),
         count: counts.waiting,
-    }
-}
-
-// A refusal leaves the chip and copies nothing.
-fn refused(chip: Ds3231, answer: TakeAnswer) -> Taking
-    ensures { result ≡ record { chip = chip; answer = answer; count = 0 } }
-{
-    Taking {
-        chip,
-        answer,
-        count: 0,
-    }
+    })
 }

@@ -1,3 +1,2 @@
-pub mod AskLaws
 pub mod Lossless
 pub mod PowerLaws

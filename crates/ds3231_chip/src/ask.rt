@@ -1,50 +1,77 @@
 // The calls that ask: `now`, `register` and the dropped count.
 ghost use Rattle.std.specs.Prelude.{◌≡◌};
+ghost use Rattle.refusals.specs.Numbered.{answered};
+ghost use Rattle.diagnostics.specs.Lent.{not_sound_row};
 ghost use Rattle.ds3231.specs.Calls.{now_answer, register_answer, dropped_answer};
-ghost use Rattle.ds3231_chip.specs.Answers.{now_numbered, register_numbered, dropped_numbered};
+ghost use Rattle.ds3231_chip.specs.Answers.{asked_row};
+ghost use Rattle.ds3231_chip.specs.declared.ask.RegisterError.TheVariants.{NotSound as ChipNotSound, NoSuchRegister as NumberTooLarge};
 
-use crate::sound::is_sound;
-use crate::{DroppedResult, NowResult, RegisterResult};
-use ds3231::{Ds3231, Named};
+use crate::sound::checked;
+use calendar::DateTime;
+use diagnostics::NotSound;
+use ds3231::{Ds3231, NoSuchRegister, Register};
 use ds3231_registers::{clock, registers, timing};
+use refusals::Refusal;
+use thiserror::Error;
+
+// Why `register` is refused.
+#[derive(Clone, Copy, Debug, PartialEq, Eq, Error)]
+pub enum RegisterError {
+    #[error("the chip is not sound")]
+    NotSound,
+    #[error("there is no such register; the last is 18")]
+    NoSuchRegister,
+}
+
+impl Refusal for RegisterError {
+    ghost row = { asked_row };
+
+    fn number(&self) -> u8 {
+        match self {
+            RegisterError::NotSound => 10,
+            RegisterError::NoSuchRegister => 9,
+        }
+    }
+}
+
+impl From<NotSound> for RegisterError {
+    ghost from_gives = { λ _ e. e ≡ ChipNotSound };
+
+    fn from(_error: NotSound) -> RegisterError {
+        RegisterError::NotSound
+    }
+}
+
+impl From<NoSuchRegister> for RegisterError {
+    ghost from_gives = { λ _ e. e ≡ NumberTooLarge };
+
+    fn from(_error: NoSuchRegister) -> RegisterError {
+        RegisterError::NoSuchRegister
+    }
+}
 
 // The time at `at`.
-pub fn now(chip: Ds3231, at: u64) -> NowResult
-    ensures { now_numbered result ≡ now_answer chip at }
+pub fn now(chip: Ds3231, at: u64) -> Result<DateTime, NotSound>
+    ensures { answered not_sound_row result ≡ now_answer chip at }
 {
-    if !is_sound(chip) {
-        return NowResult::NotSound;
-    }
-    let timing = chip.timing;
-    let clock = timing.clock;
-    NowResult::Ok(clock::now(clock, at))
+    checked(chip)?;
+    Ok(clock::now(chip.timing.clock, at))
 }
 
 // What a register holds at `at`: the live time at 0x00 to 0x06.
-pub fn register(chip: Ds3231, register: u8, at: u64) -> RegisterResult
-    ensures { register_numbered result ≡ register_answer chip register at }
+pub fn register(chip: Ds3231, number: u8, at: u64) -> Result<u8, RegisterError>
+    ensures { answered asked_row result ≡ register_answer chip number at }
 {
-    if !is_sound(chip) {
-        return RegisterResult::NotSound;
-    }
-    let timing = chip.timing;
-    let registers = chip.registers;
-    match ds3231_map::named(register) {
-        Named::One(register) => {
-            let time = timing::time_registers(timing, at);
-            RegisterResult::Ok(registers::register_byte(time, registers, register, at))
-        }
-        Named::None => RegisterResult::NoSuchRegister,
-    }
+    checked(chip)?;
+    let register = Register::try_from(number)?;
+    let time = timing::time_registers(chip.timing, at);
+    Ok(registers::register_byte(time, chip.registers, register, at))
 }
 
 // How many reports were dropped because 256 were waiting.
-pub fn dropped_diagnostics(chip: Ds3231) -> DroppedResult
-    ensures { dropped_numbered result ≡ dropped_answer chip }
+pub fn dropped_diagnostics(chip: Ds3231) -> Result<u64, NotSound>
+    ensures { answered not_sound_row result ≡ dropped_answer chip }
 {
-    if !is_sound(chip) {
-        return DroppedResult::NotSound;
-    }
-    let diagnostics = chip.diagnostics;
-    DroppedResult::Ok(diagnostics.dropped)
+    checked(chip)?;
+    Ok(chip.diagnostics.dropped)
 }

@@ -1,121 +1,89 @@
 // Power-on.
-ghost use Rattle.std.specs.Prelude.{◌≡◌};
-ghost use Rattle.std.specs.Prelude.{if◌then◌else◌};
-ghost use Rattle.calendar.specs.Stated.{InRange, weekday_of};
-ghost use Rattle.ds3231.specs.Calls.{timing_on, registers_on, chip_on};
-ghost use Rattle.ds3231_chip.specs.Answers.{no_chip, PoweredOn};
+ghost use Rattle.std.specs.Prelude.{◌≡◌, if◌then◌else◌};
+ghost use Rattle.refusals.specs.Numbered.{answered};
+ghost use Rattle.ds3231.specs.Calls.{timing_from, registers_on, power_on};
+ghost use Rattle.ds3231_chip.specs.Answers.{config_row, no_chip};
+ghost use Rattle.ds3231_chip.specs.declared.power.Ds3231ConfigError.TheVariants.{Start};
 
 use crate::sound::in_quarters;
-use crate::{PowerOn, PowerOnAnswer};
-use calendar::{
-    DateTime, SECONDS_IN_RANGE, SECONDS_PER_DAY, Validity, WEEKDAY_OF_2000_OFFSET, weekday_of_day,
-};
+use calendar::{DateTimeError, SECONDS_IN_RANGE};
 use diagnostics::Diagnostics;
-use ds3231::{Clock, Ds3231, Ds3231Config, PendingTime, Phase, Register, Registers, Timing};
+use ds3231::{Clock, Ds3231, Ds3231Config, Phase, Register, Registers, Timing};
 use ds3231_registers::registers::{EN32KHZ, OSF};
 use ds3231_registers::{clock, timing};
+use refusals::Refusal;
+use thiserror::Error;
 
 const CONTROL_POWER_ON: u8 = 0x1C;
 
+// Why power-on is refused.
+#[derive(Clone, Copy, Debug, PartialEq, Eq, Error)]
+pub enum Ds3231ConfigError {
+    #[error("the start time is invalid: {0}")]
+    Start(DateTimeError),
+    #[error("{0} quarters of a degree do not fit the DS3231's 10-bit temperature; give a temperature from −512 to 511 quarters (−128.00 to 127.75 °C)")]
+    Temperature(i16),
+}
+
+impl Refusal for Ds3231ConfigError {
+    ghost row = { config_row };
+
+    fn number(&self) -> u8 {
+        match self {
+            Ds3231ConfigError::Start(error) => error.number(),
+            Ds3231ConfigError::Temperature(_) => 7,
+        }
+    }
+}
+
+impl From<DateTimeError> for Ds3231ConfigError {
+    ghost from_gives = { λ d e. e ≡ Start d };
+
+    fn from(error: DateTimeError) -> Ds3231ConfigError {
+        Ds3231ConfigError::Start(error)
+    }
+}
+
 // A clock at the configured start at instant 0, its pointer at 0x00.
-pub fn power_on(config: Ds3231Config) -> PowerOn
-    ensures { PoweredOn config result }
+pub fn power_on(config: Ds3231Config) -> Result<Ds3231, Ds3231ConfigError>
+    ensures { answered config_row result ≡ power_on config }
 {
-    let start = config.start;
-    let quarters = config.temperature_quarters;
-    let validity = start.validate();
-    match validity {
-        Validity::Valid => {
-            if in_quarters(quarters) {
-                let chip = chip_on(config);
-                PowerOn {
-                    answer: PowerOnAnswer::On,
-                    chip,
-                }
-            } else {
-                let chip = no_chip();
-                PowerOn {
-                    answer: PowerOnAnswer::Temperature(quarters),
-                    chip,
-                }
-            }
-        }
-        Validity::Invalid(error) => {
-            let chip = no_chip();
-            PowerOn {
-                answer: PowerOnAnswer::Start(error),
-                chip,
-            }
-        }
+    let weekday = config.start.weekday()?;
+    if !in_quarters(config.temperature_quarters) {
+        return Err(Ds3231ConfigError::Temperature(config.temperature_quarters));
     }
+    Ok(Ds3231 {
+        timing: timing_from(clock::set(config.start, weekday, 0)),
+        registers: registers_on(config),
+        diagnostics: Diagnostics {
+            waiting: 0,
+            dropped: 0,
+        },
+    })
 }
 
-fn chip_on(config: Ds3231Config) -> Ds3231
-    requires { InRange config.start }
-    ensures { result ≡ chip_on config }
+fn timing_from(clock: Clock) -> Timing
+    ensures { result ≡ timing_from clock }
 {
-    let timing = timing_on(config);
-    let registers = registers_on(config);
-    let diagnostics = Diagnostics {
-        waiting: 0,
-        dropped: 0,
-    };
-    Ds3231 {
-        timing,
-        registers,
-        diagnostics,
-    }
-}
-
-fn timing_on(config: Ds3231Config) -> Timing
-    requires { InRange config.start }
-    ensures { result ≡ timing_on config }
-{
-    let start = config.start;
-    let clock = clock::set(start, start_weekday(start), 0);
-    let pending = no_pending(start);
-    let latched = timing::shown(clock, false, 0);
     Timing {
         phase: Phase::Released,
         pointer: Register::Seconds,
         clock,
         twelve_hour: false,
-        latched,
-        is_pending: false,
-        pending,
+        latched: timing::shown(clock, false, 0),
+        pending: None,
         pending_at: 0,
-    }
-}
-
-// The weekday of a valid start.
-fn start_weekday(start: DateTime) -> u8
-    requires { InRange start }
-    ensures { result ≡ weekday_of start }
-{
-    weekday_of_day(
-        start.nearest_seconds() / SECONDS_PER_DAY,
-        WEEKDAY_OF_2000_OFFSET,
-    )
-}
-
-fn no_pending(start: DateTime) -> PendingTime
-    ensures { result ≡ record { time = start; weekday = 1 } }
-{
-    PendingTime {
-        time: start,
-        weekday: 1,
     }
 }
 
 fn registers_on(config: Ds3231Config) -> Registers
     ensures { result ≡ registers_on config }
 {
-    let alarms = [0; 7];
     Registers {
-        alarms,
+        alarms: [0; 7],
         control: CONTROL_POWER_ON,
         status: status_on(config.oscillator_stopped),
-        conversion_end: 0,
+        conversion_end: None,
         aging: 0,
         temperature_quarters: config.temperature_quarters,
         int_sqw_reported: false,
@@ -132,57 +100,39 @@ fn status_on(oscillator_stopped: bool) -> u8
     }
 }
 
-// The chip of a refused power-on, which is not sound: its base seconds are out of range.
-fn no_chip() -> Ds3231
+// A chip that is not sound, for a place that has none yet: its base seconds are out of range, and every call on it gives 10.
+pub fn no_chip() -> Ds3231
     ensures { result ≡ no_chip }
-{
-    let timing = no_timing();
-    let alarms = [0; 7];
-    let registers = Registers {
-        alarms,
-        control: 0,
-        status: 0,
-        conversion_end: 0,
-        aging: 0,
-        temperature_quarters: 0,
-        int_sqw_reported: false,
-    };
-    let diagnostics = Diagnostics {
-        waiting: 0,
-        dropped: 0,
-    };
-    Ds3231 {
-        timing,
-        registers,
-        diagnostics,
-    }
-}
-
-fn no_timing() -> Timing
-    ensures { result ≡ no_chip.timing }
 {
     let clock = Clock {
         base_seconds: SECONDS_IN_RANGE,
         base_at: 0,
         weekday_offset: 0,
     };
-    let pending = no_pending(DateTime {
-        year: 2000,
-        month: 1,
-        day: 1,
-        hour: 0,
-        minute: 0,
-        second: 0,
-    });
-    let latched = [0; 7];
-    Timing {
+    let timing = Timing {
         phase: Phase::Released,
         pointer: Register::Seconds,
         clock,
         twelve_hour: false,
-        latched,
-        is_pending: false,
-        pending,
+        latched: [0; 7],
+        pending: None,
         pending_at: 0,
+    };
+    let registers = Registers {
+        alarms: [0; 7],
+        control: 0,
+        status: 0,
+        conversion_end: None,
+        aging: 0,
+        temperature_quarters: 0,
+        int_sqw_reported: false,
+    };
+    Ds3231 {
+        timing,
+        registers,
+        diagnostics: Diagnostics {
+            waiting: 0,
+            dropped: 0,
+        },
     }
 }

@@ -1,9 +1,12 @@
 // Soundness, part by part.
 ghost use Rattle.std.specs.Prelude.{◌≡◌};
-ghost use Rattle.ds3231.specs.Calls.{sound_time, sound_pending, sound_timing, in_quarters, sound_registers, sound};
+ghost use Rattle.refusals.specs.Numbered.{answered};
+ghost use Rattle.diagnostics.specs.Lent.{not_sound_row, lent_row};
+ghost use Rattle.ds3231.specs.Calls.{sound_time, sound_pending, sound_timing, in_quarters, sound_registers, sound, checked_chip};
+ghost use Rattle.ds3231_chip.specs.Answers.{lent_verdict};
 
 use calendar::{DateTime, SECONDS_IN_RANGE};
-use diagnostics::MAX_DIAGNOSTICS;
+use diagnostics::{LentError, MAX_DIAGNOSTICS, NotSound};
 use ds3231::{Ds3231, PendingTime, Registers, Timing};
 use ds3231_registers::registers::CONV;
 
@@ -28,8 +31,7 @@ fn sound_time(time: DateTime) -> bool
 fn sound_pending(pending: PendingTime) -> bool
     ensures { result ≡ sound_pending pending }
 {
-    let time = pending.time;
-    sound_time(time) & (1 <= pending.weekday) & (pending.weekday <= 7)
+    sound_time(pending.time) & (1 <= pending.weekday) & (pending.weekday <= 7)
 }
 
 // The pointer is at most 0x12 by its type.
@@ -37,10 +39,9 @@ fn sound_timing(timing: Timing) -> bool
     ensures { result ≡ sound_timing timing }
 {
     let clock = timing.clock;
-    let pending = timing.pending;
     (clock.base_seconds < SECONDS_IN_RANGE)
         & (clock.weekday_offset <= 6)
-        & (!timing.is_pending | sound_pending(pending))
+        & timing.pending.is_none_or(sound_pending)
 }
 
 pub(crate) fn in_quarters(quarters: i16) -> bool
@@ -60,8 +61,28 @@ fn sound_registers(registers: Registers) -> bool
 pub fn is_sound(chip: Ds3231) -> bool
     ensures { result ≡ sound chip }
 {
-    let timing = chip.timing;
-    let registers = chip.registers;
-    let diagnostics = chip.diagnostics;
-    sound_timing(timing) & sound_registers(registers) & (diagnostics.waiting <= MAX_DIAGNOSTICS)
+    sound_timing(chip.timing)
+        & sound_registers(chip.registers)
+        & (chip.diagnostics.waiting <= MAX_DIAGNOSTICS)
+}
+
+// Whether the chip is sound, as a call that asks tests it.
+pub fn checked(chip: Ds3231) -> Result<(), NotSound>
+    ensures { answered not_sound_row result ≡ checked_chip chip }
+{
+    if !is_sound(chip) {
+        return Err(NotSound);
+    }
+    Ok(())
+}
+
+// Whether the chip is sound and the store that it is lent, of `len` records, has 256, as a call tests it that is lent one.
+pub fn checked_lent(chip: Ds3231, len: usize) -> Result<(), LentError>
+    ensures { answered lent_row result ≡ lent_verdict chip len }
+{
+    checked(chip)?;
+    if len != MAX_DIAGNOSTICS {
+        return Err(LentError::StoreLength);
+    }
+    Ok(())
 }

@@ -1,15 +1,11 @@
--- The arithmetic of the running clock: seconds in range are not wrapped again, and the day of the nearest time.
+-- The day of the nearest time.
 -- Assumes nothing.
 use mathlib.Core.Path.{◌≡◌}
-use Prim.Native.Nat.{ℕ, ◌/◌, ◌%◌}
-use native.Mathlib.Omega.{arith}
+use Prim.Native.Nat.{◌/◌}
 use Rattle.calendar.specs.Stated.{seconds_of, day_number, nearest}
 use Rattle.calendar.specs.declared.DateTime.{DateTime}
 use Rattle.calendar.proofs.Laws.{seconds_day, nearest_in_range}
-use Rattle.ds3231.specs.Numbers.{day, range}
-
-pub wrapped_once : (n : ℕ) → n % range % range ≡ n % range
-wrapped_once n = omega arith
+use Rattle.ds3231.specs.Numbers.{day}
 
 pub nearest_day : (t : DateTime) → seconds_of (nearest t) / day ≡ day_number (nearest t).year (nearest t).month (nearest t).day
 nearest_day t = seconds_day (nearest t) (nearest_in_range t)

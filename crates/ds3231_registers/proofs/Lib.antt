@@ -1,3 +1,2 @@
 pub mod ClockLaws
 pub mod RegisterLaws
-pub mod TimingLaws

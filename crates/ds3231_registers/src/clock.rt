@@ -1,5 +1,5 @@
 // The running clock: what it shows at an instant, and how it is set.
-ghost use Rattle.std.specs.Prelude.{◌≡◌, ◌-◌};
+ghost use Rattle.std.specs.Prelude.{◌≡◌};
 ghost use Rattle.calendar.specs.Stated.{nearest};
 ghost use Rattle.ds3231.specs.Clock.{seconds_at, time_at, weekday_at, second_start, clock_set};
 ghost use Rattle.ds3231.specs.Changed.{offset_for};
@@ -13,15 +13,8 @@ const NANOS_PER_SECOND: u64 = 1_000_000_000;
 fn seconds(clock: Clock, at: u64) -> u64
     ensures { result ≡ seconds_at clock at }
 {
-    let elapsed = since(clock.base_at, at) / NANOS_PER_SECOND;
+    let elapsed = at.saturating_sub(clock.base_at) / NANOS_PER_SECOND;
     (clock.base_seconds % SECONDS_IN_RANGE + elapsed % SECONDS_IN_RANGE) % SECONDS_IN_RANGE
-}
-
-// The nanoseconds from one instant to another, 0 where the other is the earlier one.
-fn since(earlier: u64, at: u64) -> u64
-    ensures { result ≡ at - earlier }
-{
-    if at < earlier { 0 } else { at - earlier }
 }
 
 // The time that it shows.
@@ -42,8 +35,7 @@ pub(crate) fn weekday(clock: Clock, at: u64) -> u8
 pub(crate) fn second_start(clock: Clock, at: u64) -> u64
     ensures { result ≡ second_start clock at }
 {
-    let into_second = since(clock.base_at, at) % NANOS_PER_SECOND;
-    at - into_second
+    at - at.saturating_sub(clock.base_at) % NANOS_PER_SECOND
 }
 
 // The clock at the time nearest to `time`, a second beginning at `base_at`, with `weekday` that day.
@@ -63,5 +55,5 @@ pub fn set(time: DateTime, weekday: u8, base_at: u64) -> Clock
 fn offset_for(weekday: u8, days: u64) -> u64
     ensures { result ≡ offset_for weekday days }
 {
-    (weekday as u64 + 6 + DAYS_PER_WEEK - days % DAYS_PER_WEEK) % DAYS_PER_WEEK
+    (u64::from(weekday) + 6 + DAYS_PER_WEEK - days % DAYS_PER_WEEK) % DAYS_PER_WEEK
 }

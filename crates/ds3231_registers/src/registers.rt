@@ -1,7 +1,6 @@
 // The byte of a register, and what a byte written makes of the registers outside the time, 0x07 to 0x12.
-ghost use Rattle.std.specs.Prelude.{◌≡◌, ◌+◌, min};
-ghost use Rattle.std.specs.Prelude.{if◌then◌else◌};
-ghost use Rattle.ds3231.specs.Registers.{converting, low_byte, temperature_high, temperature_low, enables_output, starts_conversion, byte_at, control_written, registers_written};
+ghost use Rattle.std.specs.Prelude.{◌≡◌, if◌then◌else◌};
+ghost use Rattle.ds3231.specs.Registers.{converting, temperature_high, temperature_low, enables_output, starts_conversion, byte_at, control_written, registers_written};
 
 use ds3231::{Register, Registers};
 pub use fields::{DATE, SECONDS, YEAR};
@@ -51,7 +50,7 @@ const CONVERSION_NANOS: u64 = 200 * NANOS_PER_MILLISECOND;
 pub fn register_byte(time: [u8; 7], registers: Registers, register: Register, at: u64) -> u8
     ensures { result ≡ byte_at time registers register at }
 {
-    let number = ds3231_map::number(register) as usize;
+    let number = usize::from(register.number());
     let converting = converting(registers, at);
     let alarms = registers.alarms;
     let quarters = registers.temperature_quarters;
@@ -89,41 +88,32 @@ fn bits_if(set: bool, mask: u8) -> u8
 fn temperature_high(quarters: i16) -> u8
     ensures { result ≡ temperature_high quarters }
 {
-    low_byte(quarters >> 2)
+    (quarters >> 2).to_le_bytes()[0]
 }
 
 // The quarters above the whole degrees, in bits 7 and 6.
 fn temperature_low(quarters: i16) -> u8
     ensures { result ≡ temperature_low quarters }
 {
-    low_byte(quarters) % 4 * 64
-}
-
-// The low eight bits of a number in two's complement: of a negative one, those of −1 less the number, turned over.
-fn low_byte(value: i16) -> u8
-    ensures { result ≡ low_byte value }
-{
-    if value < 0 {
-        return 255 - ((-1 - value) as u16 % 256) as u8;
-    }
-    (value as u16 % 256) as u8
+    quarters.to_le_bytes()[0] % 4 * 64
 }
 
 // A conversion runs at every instant below its end.
 fn converting(registers: Registers, at: u64) -> bool
     ensures { result ≡ converting registers at }
 {
-    at < registers.conversion_end
+    registers.conversion_end.is_some_and(|end| at < end)
 }
 
-// A byte written to a register. One of the time or of the temperature changes nothing here.
+// A byte written to a register. One of the time or of the temperature changes nothing here. The register is a number: every
+// number has an answer.
 pub fn write_register(registers: Registers, register: u8, byte: u8, at: u64) -> Registers
     ensures { result ≡ registers_written register byte at registers }
 {
     let mut registers = registers;
     match register {
         ALARM_FIRST..=ALARM_LAST => {
-            let slot = (register - ALARM_FIRST) as usize;
+            let slot = usize::from(register - ALARM_FIRST);
             registers.alarms[slot] = byte;
             registers
         }
@@ -146,19 +136,18 @@ fn write_control(registers: Registers, byte: u8, at: u64) -> Registers
     ensures { result ≡ control_written byte at registers }
 {
     let mut registers = registers;
-    let end = conversion_end(registers, byte, at);
-    registers.control = byte & !CONV;
-    registers.conversion_end = end;
+    registers.conversion_end = conversion_end(registers, byte, at);
     registers.int_sqw_reported = enables_output(byte) | registers.int_sqw_reported;
+    registers.control = byte & !CONV;
     registers
 }
 
-// The end of the last conversion after a byte written to control.
-fn conversion_end(registers: Registers, byte: u8, at: u64) -> u64
+// The end of the last conversion after a byte written to control. A conversion that starts ends at the last instant at most.
+fn conversion_end(registers: Registers, byte: u8, at: u64) -> Option<u64>
     ensures { result ≡ (control_written byte at registers).conversion_end }
 {
     if starts_conversion(registers, byte, at) {
-        end_of_conversion(at)
+        Some(at.saturating_add(CONVERSION_NANOS))
     } else {
         registers.conversion_end
     }
@@ -169,16 +158,6 @@ fn starts_conversion(registers: Registers, byte: u8, at: u64) -> bool
     ensures { result ≡ starts_conversion byte at registers }
 {
     (byte & CONV != 0) & !converting(registers, at)
-}
-
-// The end of a conversion that starts at an instant, at most the last instant.
-fn end_of_conversion(at: u64) -> u64
-    ensures { result ≡ min (at + 200_000_000) 0xFFFF_FFFF_FFFF_FFFF }
-{
-    if at > u64::MAX - CONVERSION_NANOS {
-        return u64::MAX;
-    }
-    at + CONVERSION_NANOS
 }
 
 // A control byte that enables the INT/SQW output, which is not modelled: the square wave, or an alarm's interrupt.

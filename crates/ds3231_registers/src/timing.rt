@@ -1,25 +1,22 @@
 // What the bus does to the part of the chip that keeps the time: the bytes that it shows, a byte at a time register, and the
 // clock that the end of a transaction sets.
-ghost use Rattle.std.specs.Prelude.{◌≡◌, ◌+◌, ◌≤◌};
-ghost use Rattle.std.specs.Prelude.{if◌then◌else◌};
+ghost use Rattle.std.specs.Prelude.{◌≡◌, ◌+◌, ◌≤◌, if◌then◌else◌};
 ghost use Rattle.fields.specs.Table.{time_bytes};
 ghost use Rattle.fields.specs.Answers.{field_meaning, decoded_meaning};
-ghost use Rattle.ds3231.specs.Clock.{time_at, weekday_at, second_start};
-ghost use Rattle.ds3231.specs.Timing.{is_defined, sets_seconds, opened as openedAt, noted as notedBy, shown_at, pointed, accept as acceptAt, commit as committed};
+ghost use Rattle.ds3231.specs.Clock.{time_at, weekday_at};
+ghost use Rattle.ds3231.specs.Timing.{sets_seconds, opened as openedAt, found, found_at, noted as notedBy, committed_clock, shown_at, pointed, accept as acceptAt};
 ghost use Rattle.ds3231.specs.Changed.{changed_time, changed_weekday, changed_mode, next_pointer};
 
 use crate::clock;
 use calendar::DateTime;
 use ds3231::{Clock, PendingTime, Timing};
-use ds3231_map::next;
-use fields::{Decoded, Field, YEARS_PER_CENTURY};
+use fields::{Field, YEARS_PER_CENTURY};
 
 // The bytes of the seven time registers, in the hour mode last written.
 pub fn time_registers(timing: Timing, at: u64) -> [u8; 7]
     ensures { result ≡ shown_at timing at }
 {
-    let clock = timing.clock;
-    shown(clock, timing.twelve_hour, at)
+    shown(timing.clock, timing.twelve_hour, at)
 }
 
 // The bytes that a clock shows in an hour mode.
@@ -35,54 +32,35 @@ pub fn shown(clock: Clock, twelve_hour: bool, at: u64) -> [u8; 7]
 
 // ---- a byte at a time register
 
-pub fn is_defined(decoded: Decoded) -> bool
-    ensures { result ≡ is_defined (decoded_meaning decoded) }
-{
-    match decoded {
-        Decoded::Defined(_) => true,
-        Decoded::Undefined => false,
-    }
-}
-
 // What a byte written to the register at the pointer makes of the timing: the pointer moves on, and a byte that is defined
 // opens the pending time where there is none, and is noted in it.
-pub fn accept(timing: Timing, decoded: Decoded, at: u64) -> Timing
+pub fn accept(timing: Timing, decoded: Option<Field>, at: u64) -> Timing
     ensures { result ≡ pointed (next_pointer timing.pointer) (acceptAt (decoded_meaning decoded) at timing) }
 {
-    let phase = timing.phase;
-    let pointer = timing.pointer;
-    let clock = timing.clock;
-    let latched = timing.latched;
-    let mut twelve_hour = timing.twelve_hour;
-    let mut is_pending = timing.is_pending;
-    let mut pending = timing.pending;
-    let mut pending_at = timing.pending_at;
-    if let Decoded::Defined(field) = decoded {
-        twelve_hour = changed_mode(field, twelve_hour);
-        is_pending = true;
-        pending = noted(field, pending_time(timing, at));
-        pending_at = begins_at(field, timing, at);
-    }
-    Timing {
-        phase,
-        pointer: next(pointer),
-        clock,
-        twelve_hour,
-        latched,
-        is_pending,
-        pending,
-        pending_at,
+    let pointer = timing.pointer.next();
+    match decoded {
+        Some(field) => Timing {
+            pointer,
+            twelve_hour: changed_mode(field, timing.twelve_hour),
+            pending: Some(noted(field, pending_time(timing, at))),
+            pending_at: begins_at(field, timing, at),
+            ..timing
+        },
+        None => Timing { pointer, ..timing },
     }
 }
 
 // The pending time that a byte finds: the first one finds the clock's time and weekday.
 fn pending_time(timing: Timing, at: u64) -> PendingTime
-    ensures { result ≡ (if timing.is_pending then timing.pending else openedAt timing.clock at) }
+    ensures { result ≡ found timing.pending timing.clock at }
 {
-    if timing.is_pending {
-        return timing.pending;
-    }
-    let clock = timing.clock;
+    timing.pending.unwrap_or_else(|| opened(timing.clock, at))
+}
+
+// The pending time of a transaction's first byte: the clock's whole second.
+fn opened(clock: Clock, at: u64) -> PendingTime
+    ensures { result ≡ openedAt clock at }
+{
     PendingTime {
         time: clock::now(clock, at),
         weekday: clock::weekday(clock, at),
@@ -93,9 +71,8 @@ fn pending_time(timing: Timing, at: u64) -> PendingTime
 fn noted(field: Field, pending: PendingTime) -> PendingTime
     ensures { result ≡ notedBy (field_meaning field) pending }
 {
-    let time = pending.time;
     PendingTime {
-        time: changed_time(field, time),
+        time: changed_time(field, pending.time),
         weekday: changed_weekday(field, pending.weekday),
     }
 }
@@ -103,16 +80,15 @@ fn noted(field: Field, pending: PendingTime) -> PendingTime
 // The instant at which a second of the pending time begins: the last seconds byte, or the start of the second of the first
 // byte.
 fn begins_at(field: Field, timing: Timing, at: u64) -> u64
-    ensures { result ≡ (if sets_seconds (field_meaning field) then at else if timing.is_pending then timing.pending_at else second_start timing.clock at) }
+    ensures { result ≡ (if sets_seconds (field_meaning field) then at else found_at timing.pending timing.pending_at timing.clock at) }
 {
-    if is_second(field) {
+    if let Field::Second(_) = field {
         return at;
     }
-    if timing.is_pending {
-        return timing.pending_at;
+    match timing.pending {
+        Some(_) => timing.pending_at,
+        None => clock::second_start(timing.clock, at),
     }
-    let clock = timing.clock;
-    clock::second_start(clock, at)
 }
 
 // The time with the field: a month also sets the century, a year keeps it.
@@ -129,10 +105,7 @@ fn changed_time(field: Field, time: DateTime) -> DateTime
             time.minute = minute;
             time
         }
-        Field::Hour {
-            hour,
-            twelve_hour: _,
-        } => {
+        Field::Hour { hour, .. } => {
             time.hour = hour;
             time
         }
@@ -148,7 +121,7 @@ fn changed_time(field: Field, time: DateTime) -> DateTime
         }
         Field::Year(two_digits) => {
             let century = time.year >= DateTime::FIRST_YEAR + YEARS_PER_CENTURY;
-            time.year = year_of(century, two_digits as u16);
+            time.year = year_of(century, u16::from(two_digits));
             time
         }
     }
@@ -176,23 +149,14 @@ fn changed_weekday(field: Field, weekday: u8) -> u8
     }
 }
 
-fn is_second(field: Field) -> bool
-    ensures { result ≡ sets_seconds (field_meaning field) }
-{
-    match field {
-        Field::Second(_) => true,
-        _ => false,
-    }
-}
-
 // The hour mode, which an hour sets.
 fn changed_mode(field: Field, twelve_hour: bool) -> bool
     ensures { result ≡ changed_mode (field_meaning field) twelve_hour }
 {
     match field {
         Field::Hour {
-            hour: _,
             twelve_hour: written,
+            ..
         } => written,
         _ => twelve_hour,
     }
@@ -202,12 +166,10 @@ fn changed_mode(field: Field, twelve_hour: bool) -> bool
 
 // The clock after a commit, which sets it to the pending time: a day past the month's end becomes its last day.
 pub fn commit(timing: Timing) -> Clock
-    ensures { result ≡ (committed timing).clock }
+    ensures { result ≡ committed_clock timing.pending timing.pending_at timing.clock }
 {
-    let pending = timing.pending;
-    let time = pending.time;
-    if timing.is_pending {
-        return clock::set(time, pending.weekday, timing.pending_at);
+    match timing.pending {
+        Some(pending) => clock::set(pending.time, pending.weekday, timing.pending_at),
+        None => timing.clock,
     }
-    timing.clock
 }

@@ -13,17 +13,10 @@ mod reports;
 
 pub use events::step;
 
-// What an event reports: at most one record.
-#[derive(Clone, Copy)]
-pub enum Report {
-    None,
-    One(I2cDiagnostic),
-}
-
-// The chip after an event, its reply and its report.
-#[derive(Clone, Copy)]
+// The chip after an event, its reply, and what it reports: at most one record.
+#[derive(Clone, Copy, Debug)]
 pub struct Stepped {
     pub chip: Ds3231,
     pub reply: Reply,
-    pub report: Report,
+    pub report: Option<I2cDiagnostic>,
 }

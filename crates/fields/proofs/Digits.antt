@@ -6,14 +6,12 @@ use Prim.Native.Nat.{ℕ, zero, suc, ◌/◌, ◌%◌, ◌≤◌, ◌<◌}
 use native.Mathlib.Omega.{arith}
 use lib.Dec.{T, leb}
 use borrow.Author.Tests.{le-leb, lt-leb}
-use Rattle.std.specs.Prelude.{if◌then◌else◌}
+use Rattle.std.specs.Prelude.{if◌then◌else◌, Option, Some, None}
 use Rattle.computed.proofs.Choice.{both_false}
 use Rattle.computed.proofs.Claim.{eq, below, each}
 use Rattle.computed.proofs.Lossless.{lossless}
 use Rattle.fields.specs.Table.{Meaning, undefined, sets, from_digits, decimal, in_field, plain_meaning}
 use Rattle.fields.specs.Answers.{of_digits, of_digits_within}
-use Rattle.fields.specs.declared.FromBcd.{FromBcd}
-use Rattle.fields.specs.declared.FromBcd.TheVariants.{Some, None}
 
 -- the answer by the two digits
 module _ (b : ℕ) where
@@ -65,19 +63,19 @@ module _ (low high b : ℕ) where
   on_none = none (decimal b) _ (from_digits b)
 
 -- two answers that are computed to be the same at each byte
-abbrev number : FromBcd → ℕ
+abbrev number : Option ℕ → ℕ
 number (Some n) = suc n
 number None = zero
 
-abbrev answer : ℕ → FromBcd
+abbrev answer : ℕ → Option ℕ
 answer zero = None
 answer (suc n) = Some n
 
-answer_back : (a : FromBcd) → answer (number a) ≡ a
+answer_back : (a : Option ℕ) → answer (number a) ≡ a
 answer_back (Some n) = refl
 answer_back None = refl
 
-pub each_answer : (f g : ℕ → FromBcd) → T (below (λ k. eq (number (f k)) (number (g k))) 256) → (b : ℕ) → b < 256 → f b ≡ g b
+pub each_answer : (f g : ℕ → Option ℕ) → T (below (λ k. eq (number (f k)) (number (g k))) 256) → (b : ℕ) → b < 256 → f b ≡ g b
 each_answer f g t b h =
     lossless number answer answer_back _ _ (each (λ k. eq (number (f k)) (number (g k))) 0 256 t b (omega arith) h)
 

@@ -1,13 +1,9 @@
 -- Need not be believed: no contract of a call of the chip cites it, and the contract of `decode` (src/lib.rt) equates what `decode` answers with `meaning` (specs/Table.antt). Who calls `decode` or `from_bcd`, which are no calls of document 01, reads here what they answer. Assumes nothing.
 use Rattle.computed.specs.Prelude.{ℕ, false, leb}
-use Rattle.std.specs.Prelude.{◌&&◌, if◌then◌else◌}
+use Rattle.std.specs.Prelude.{◌&&◌, if◌then◌else◌, Option, Some, None}
 use Rattle.fields.specs.Table.{Meaning, undefined, sets, from_digits, decimal}
 use Rattle.fields.specs.declared.Field.{Field}
 use Rattle.fields.specs.declared.Field.TheVariants.{Second, Minute, Hour, Weekday, Day, Month, Year}
-use Rattle.fields.specs.declared.Decoded.{Decoded}
-use Rattle.fields.specs.declared.Decoded.TheVariants.{Defined, Undefined}
-use Rattle.fields.specs.declared.FromBcd.{FromBcd}
-use Rattle.fields.specs.declared.FromBcd.TheVariants.{Some, None}
 
 -- the register of a field, its value and its flag
 abbrev pub field_meaning : Field → Meaning
@@ -19,14 +15,15 @@ field_meaning (Day d) = sets 4 d false
 field_meaning (Month m century) = sets 5 m century
 field_meaning (Year y) = sets 6 y false
 
-abbrev pub decoded_meaning : Decoded → Meaning
-decoded_meaning (Defined f) = field_meaning f
-decoded_meaning Undefined = undefined
+-- of the field that a byte sets; none is undefined
+abbrev pub decoded_meaning : Option Field → Meaning
+decoded_meaning (Some f) = field_meaning f
+decoded_meaning None = undefined
 
 -- the number of two digits, none where a digit exceeds 9
-abbrev pub of_digits : ℕ → FromBcd
+abbrev pub of_digits : ℕ → Option ℕ
 of_digits b = if decimal b then Some (from_digits b) else None
 
 -- the number of two digits where it is from low to high
-abbrev pub of_digits_within : ℕ → ℕ → ℕ → FromBcd
+abbrev pub of_digits_within : ℕ → ℕ → ℕ → Option ℕ
 of_digits_within low high b = if decimal b && (leb low (from_digits b) && leb (from_digits b) high) then Some (from_digits b) else None

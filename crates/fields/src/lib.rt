@@ -41,7 +41,7 @@ const MONTH_FIELD: u8 = 0x1F;
 pub const YEARS_PER_CENTURY: u16 = 100;
 
 // A field of the time, decoded from a byte written to a time register.
-#[derive(Clone, Copy)]
+#[derive(Clone, Copy, Debug, PartialEq, Eq)]
 pub enum Field {
     Second(u8),
     Minute(u8),
@@ -50,20 +50,6 @@ pub enum Field {
     Day(u8),
     Month { month: u8, century: bool },
     Year(u8),
-}
-
-// What `decode` answers.
-#[derive(Clone, Copy)]
-pub enum Decoded {
-    Defined(Field),
-    Undefined,
-}
-
-// What `from_bcd` and `from_bcd_within` answer.
-#[derive(Clone, Copy)]
-enum FromBcd {
-    Some(u8),
-    None,
 }
 
 // The bytes of the seven time registers, in 12-hour or 24-hour mode.
@@ -121,57 +107,39 @@ fn on_dial(hour: u8) -> u8
     }
 }
 
-// The field that a byte written to a time register sets. Undefined is a byte with a digit above 9, with a bit set that must be 0, or whose value is out of the field's range.
-pub fn decode(register: u8, byte: u8) -> Decoded
+// The field that a byte written to a time register sets, none where the byte is undefined: a digit is above 9, a bit is set
+// that must be 0, or the value is out of the field's range. The register is a number: every number has an answer.
+pub fn decode(register: u8, byte: u8) -> Option<Field>
     ensures { decoded_meaning result ≡ meaning register byte }
 {
     match register {
-        SECONDS => match from_bcd_within(byte, 0, 59) {
-            FromBcd::Some(second) => Decoded::Defined(Field::Second(second)),
-            FromBcd::None => Decoded::Undefined,
-        },
-        MINUTES => match from_bcd_within(byte, 0, 59) {
-            FromBcd::Some(minute) => Decoded::Defined(Field::Minute(minute)),
-            FromBcd::None => Decoded::Undefined,
-        },
+        SECONDS => from_bcd_within(byte, 0, 59).map(Field::Second),
+        MINUTES => from_bcd_within(byte, 0, 59).map(Field::Minute),
         HOURS => decode_hour(byte),
-        WEEKDAY => match from_bcd_within(byte, 1, 7) {
-            FromBcd::Some(weekday) => Decoded::Defined(Field::Weekday(weekday)),
-            FromBcd::None => Decoded::Undefined,
-        },
-        DATE => match from_bcd_within(byte, 1, 31) {
-            FromBcd::Some(day) => Decoded::Defined(Field::Day(day)),
-            FromBcd::None => Decoded::Undefined,
-        },
+        WEEKDAY => from_bcd_within(byte, 1, 7).map(Field::Weekday),
+        DATE => from_bcd_within(byte, 1, 31).map(Field::Day),
         MONTH => decode_month(byte),
-        YEAR => match from_bcd_within(byte, 0, 99) {
-            FromBcd::Some(year) => Decoded::Defined(Field::Year(year)),
-            FromBcd::None => Decoded::Undefined,
-        },
-        _ => Decoded::Undefined,
+        YEAR => from_bcd_within(byte, 0, 99).map(Field::Year),
+        _ => None,
     }
 }
 
 // The hours register: bit 6 set is 12-hour mode, where bit 5 is PM and the hour runs from 1 to 12; in 24-hour mode it runs from 0 to 23.
-fn decode_hour(byte: u8) -> Decoded
+fn decode_hour(byte: u8) -> Option<Field>
     ensures { decoded_meaning result ≡ meaning 2 byte }
 {
     if byte & TWELVE_HOUR == 0 {
-        return match from_bcd_within(byte, 0, 23) {
-            FromBcd::Some(hour) => Decoded::Defined(Field::Hour {
-                hour,
-                twelve_hour: false,
-            }),
-            FromBcd::None => Decoded::Undefined,
-        };
+        let hour = from_bcd_within(byte, 0, 23)?;
+        return Some(Field::Hour {
+            hour,
+            twelve_hour: false,
+        });
     }
-    match from_bcd_within(byte & !(TWELVE_HOUR | PM), 1, 12) {
-        FromBcd::Some(on_dial) => Decoded::Defined(Field::Hour {
-            hour: on_dial % HOURS_PER_HALF_DAY + afternoon(byte),
-            twelve_hour: true,
-        }),
-        FromBcd::None => Decoded::Undefined,
-    }
+    let on_dial = from_bcd_within(byte & !(TWELVE_HOUR | PM), 1, 12)?;
+    Some(Field::Hour {
+        hour: on_dial % HOURS_PER_HALF_DAY + afternoon(byte),
+        twelve_hour: true,
+    })
 }
 
 // The 12 hours that PM adds to an hour on the dial, by an hours byte.
@@ -186,19 +154,17 @@ fn afternoon(byte: u8) -> u8
 }
 
 // The month register: bit 7 is the century, bits 6 and 5 must be 0.
-fn decode_month(byte: u8) -> Decoded
+fn decode_month(byte: u8) -> Option<Field>
     ensures { decoded_meaning result ≡ meaning 5 byte }
 {
     if byte & !(CENTURY | MONTH_FIELD) != 0 {
-        return Decoded::Undefined;
+        return None;
     }
-    match from_bcd_within(byte & MONTH_FIELD, 1, 12) {
-        FromBcd::Some(month) => Decoded::Defined(Field::Month {
-            month,
-            century: byte & CENTURY != 0,
-        }),
-        FromBcd::None => Decoded::Undefined,
-    }
+    let month = from_bcd_within(byte & MONTH_FIELD, 1, 12)?;
+    Some(Field::Month {
+        month,
+        century: byte & CENTURY != 0,
+    })
 }
 
 // The two digits of a value; of one above 159 those that eight bits keep.
@@ -209,29 +175,20 @@ pub fn to_bcd(value: u8) -> u8
 }
 
 // The value of two digits, none where a digit is above 9.
-fn from_bcd(byte: u8) -> FromBcd
+fn from_bcd(byte: u8) -> Option<u8>
     ensures { result ≡ of_digits byte }
 {
     let tens = byte / 16;
     let ones = byte % 16;
     if tens > 9 || ones > 9 {
-        return FromBcd::None;
+        return None;
     }
-    FromBcd::Some(tens * 10 + ones)
+    Some(tens * 10 + ones)
 }
 
 // The value of two digits, none where a digit is above 9 or the value is not from `low` to `high`.
-fn from_bcd_within(byte: u8, low: u8, high: u8) -> FromBcd
+fn from_bcd_within(byte: u8, low: u8, high: u8) -> Option<u8>
     ensures { result ≡ of_digits_within low high byte }
 {
-    match from_bcd(byte) {
-        FromBcd::Some(value) => {
-            if low <= value && value <= high {
-                FromBcd::Some(value)
-            } else {
-                FromBcd::None
-            }
-        }
-        FromBcd::None => FromBcd::None,
-    }
+    from_bcd(byte).filter(|value| (low..=high).contains(value))
 }

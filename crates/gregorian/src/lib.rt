@@ -4,7 +4,7 @@
 // `specs/Ranges.antt` the valid times, by the ranges of their fields; `specs/Nearest.antt` the nearest of them.
 #![tactic(auto)]
 
-#[derive(Clone, Copy)]
+#[derive(Clone, Copy, Debug, PartialEq, Eq)]
 pub struct Date {
     pub year: u16,
     pub month: u8,

@@ -1,39 +1,42 @@
--- The store of a run: what stands in the local array once the records are copied in, and in the store once they are copied back.
+-- A list that is copied into another, record by record; and a store of 256 records copied so into an array, and back. The library's `copy_from_slice`, which `run` copies by, promises the whole copy.
 -- Assumes nothing.
-use Prim.Native.Nat.{ℕ, ◌≤◌}
-use mathlib.Core.Bool.{Bool, true, false}
-use mathlib.Core.List.{List}
-use mathlib.Core.Path.{◌≡◌, refl, sym, ap, ◌∙◌}
-use native.Mathlib.Omega.{arith}
-use lib.Dec.{eqb}
-use lib.ListN.{length}
-use borrow.Author.Tests.{eqb-true, eq-eqb}
+use Rattle.std.proofs.Common.{◌≡◌, ℕ, suc, ◌+◌, ◌<◌, Bool, true, false, eqb, List, ◌++◌, length, get_or, take, drop, set, refl, sym, ap, ◌∙◌, add-one, arith}
+use Rattle.std.proofs.lemmas.Bool.Decides.{nat_tests}
+use Rattle.std.proofs.Math.ListN.{drop_of_length-le}
+use Rattle.std.proofs.Math.Seq.{length-take-le, take-suc, take_all, drop-cons, append_snoc, set_at}
 use Rattle.std.specs.Prelude.{if◌then◌else◌, cond}
-use Rattle.walking.proofs.Copied.{Copied, copied_all}
-use Rattle.script.specs.ByValue.{whole_of}
+use mathlib.Core.List.{append-nil}
 
--- what `whole` answers is below the store's length and below that of the array
-within_by : (len : ℕ) (b : Bool) → eqb len 256 ≡ b → (cond b 256 0 ≤ len) × (cond b 256 0 ≤ 256)
-within_by len true e = let k = eqb-true len 256 e in (omega arith, omega arith)
-within_by len false e = (omega arith, omega arith)
+-- how many records of a store of n are copied: all of 256, else none
+abbrev pub whole_of : ℕ → ℕ
+whole_of n = cond (eqb n 256) 256 0
 
-pub whole_within : (len : ℕ) → (whole_of len ≤ len) × (whole_of len ≤ 256)
-unfolding whole_of
-whole_within len = within_by len (eqb len 256) refl
+module _ {X : Type 0} (xs zs : List X) where
+  -- the first i records are xs', the rest are zs'
+  abbrev pub Copied : ℕ → List X
+  Copied i = take i xs ++ drop i zs
+
+  -- the next record makes the next list
+  pub copied_next : (i : ℕ) (d : X) → i < length xs → i < length zs → set (Copied i) i (get_or xs i d) ≡ Copied (i + 1)
+  copied_next i d hx hz =
+      ap (λ (l : List X). set (take i xs ++ l) i (get_or xs i d)) (drop-cons zs i d hz) ∙ set_at (take i xs) (get_or zs i d) (drop (suc i) zs) (get_or xs i d) i (length-take-le i xs (omega arith))
+      ∙ sym (append_snoc (take i xs) (get_or xs i d) (drop (suc i) zs)) ∙ ap (λ (l : List X). l ++ drop (suc i) zs) (sym (take-suc xs i d hx)) ∙ ap (λ (k : ℕ). take k xs ++ drop k zs) (sym (add-one i))
+
+  -- with all copied it is xs
+  pub copied_all : (n : ℕ) → length xs ≡ n → length zs ≡ n → Copied n ≡ xs
+  copied_all n p q = ap (λ (l : List X). take n xs ++ l) (drop_of_length-le zs {i = n} (omega (arith, q))) ∙ append-nil (take n xs) ∙ take_all n xs (omega (arith, p))
 
 module _ {X : Type 0} (st : List X) where
   -- the array holds the store's records where there are 256
   pub copied_in : (init rs : List X) (n : ℕ) → n ≡ whole_of (length st) → length init ≡ 256 → rs ≡ Copied st init n → length st ≡ 256 → st ≡ rs
-  unfolding whole_of
   copied_in init rs n w l e f =
-      let k : n ≡ 256 = w ∙ ap (λ (b : Bool). cond b 256 0) (eq-eqb (length st) 256 f) in
+      let k : n ≡ 256 = grind (arith, nat_tests) in
       sym (e ∙ ap (Copied st init) k ∙ copied_all st init 256 f l)
-
-  back_by : (rs st' : List X) (n : ℕ) (b : Bool) → eqb (length st) 256 ≡ b → n ≡ cond b 256 0 → length rs ≡ 256 → st' ≡ Copied rs st n → st' ≡ (if b then rs else st)
-  back_by rs st' n true f k l e = e ∙ ap (Copied rs st) k ∙ copied_all rs st 256 l (eqb-true (length st) 256 f)
-  back_by rs st' n false f k l e = e ∙ ap (Copied rs st) k
 
   -- the store holds the array's records where it has 256, and else its own
   pub copied_back : (rs st' : List X) (n : ℕ) → n ≡ whole_of (length st) → length rs ≡ 256 → st' ≡ Copied rs st n → st' ≡ (if eqb (length st) 256 then rs else st)
-  unfolding whole_of
-  copied_back rs st' n w l e = back_by rs st' n (eqb (length st) 256) refl w l e
+  copied_back rs st' n w l e = by (eqb (length st) 256) refl w
+    where
+      by : (b : Bool) → eqb (length st) 256 ≡ b → n ≡ cond b 256 0 → st' ≡ (if b then rs else st)
+      by true f k = e ∙ ap (Copied rs st) k ∙ copied_all rs st 256 l (grind (arith, nat_tests))
+      by false f k = e ∙ ap (Copied rs st) k

@@ -1,10 +1,6 @@
-pub mod Bytes
-pub mod Events
+pub mod Copies
+pub mod Own
 pub mod Turns
-pub mod CheckVerdicts
-pub mod Laws
-pub mod Lossless
 pub mod RunLaws
 pub mod RunVerdicts
 pub mod HostLaws
-pub mod Copies

@@ -10,8 +10,9 @@ use native.Mathlib.Omega.{arith}
 use lib.Dec.{eqb}
 use lib.ListN.{length, get_or, length-append, get_or-append}
 use lib.Seq.{get_or-append-add}
-use Rattle.refusals.specs.Numbered.{Numbered, accepted, refused, unless}
-use Rattle.std.specs.Prelude.{if◌then◌else◌}
+use Rattle.refusals.specs.Numbered.{Numbered, accepted, refused, unless, Row, answered}
+use Rattle.refusals.proofs.Lossless.{answered_lossless}
+use Rattle.std.specs.Prelude.{if◌then◌else◌, Result}
 use Rattle.computed.proofs.Lossless.{lossless}
 use Rattle.diagnostics.specs.declared.I2cDiagnostic.{I2cDiagnostic}
 use Rattle.diagnostics.proofs.Counts.{stored_all_length}
@@ -19,13 +20,13 @@ use Rattle.ds3231.specs.Calls.{sound, step, bus, verdict, store_by, store_after}
 use Rattle.ds3231.specs.declared.Ds3231.{Ds3231}
 use Rattle.ds3231.specs.declared.Event.{Event}
 use Rattle.ds3231.proofs.Sounds.{sound_kept}
-use Rattle.script.specs.Records.{records_in}
-use Rattle.script.specs.Runs.{event_of, Held, held_at, answers_to, answer_at, run_numbered, run_verdict, Ran, clockrun_held}
-use Rattle.script.specs.declared.ScriptFault.{ScriptFault}
-use Rattle.script.specs.declared.ScriptFault.TheVariants.{TooLong, NotWhole, Kind, Value, Padding, Falling}
-use Rattle.script.specs.declared.runs.RunAnswer.{RunAnswer}
-use Rattle.script.specs.declared.runs.RunAnswer.TheVariants.{Done, NotSound, StoreLength, AnswersLength, Script}
-use Rattle.script.proofs.Lossless.{fault_back}
+use Rattle.script_check.specs.Records.{records_in}
+use Rattle.script.specs.Runs.{event_of, Held, held_at, answers_to, answer_at, run_row, run_verdict, Ran, clockrun_held}
+use Rattle.script_check.specs.declared.faults.ScriptFault.TheVariants.{TooLong, NotWhole, Record}
+use Rattle.script_check.specs.declared.faults.RecordFault.TheVariants.{Kind, Value, Padding, Falling}
+use Rattle.script_check.proofs.Lossless.{fault_back}
+use Rattle.script.specs.declared.errors.RunError.{RunError}
+use Rattle.script.specs.declared.errors.RunError.TheVariants.{NotSound, StoreLength, AnswersLength, Script}
 use Rattle.script.proofs.RunVerdicts.{power_on_is_sound}
 
 module _ (s : List ℕ) (h : Held) where
@@ -73,7 +74,7 @@ pub none_refused : (s : List ℕ) (h : Held) → sound h.chip ≡ true → lengt
 none_refused s h ok whole i = rw (stays_sound s h ok i, stays_whole s h whole i)
 
 -- every run keeps a sound chip sound, refused or not: `Ran` is what `run` and `run_values` promise
-pub run_keeps_sound : {h : Held} {s a : List ℕ} {r : RunAnswer} {c' : Ds3231} {st' : List I2cDiagnostic} {a' : List ℕ} → Ran h s a r c' st' a' → sound h.chip ≡ true → sound c' ≡ true
+pub run_keeps_sound : {h : Held} {s a : List ℕ} {r : Result (Unit {0}) RunError} {c' : Ds3231} {st' : List I2cDiagnostic} {a' : List ℕ} → Ran h s a r c' st' a' → sound h.chip ≡ true → sound c' ≡ true
 run_keeps_sound {h} {s} {a} ran ok = rw ran.chip (by (run_verdict h s (length a)))
   where
     by : (v : Numbered (Unit {0})) → sound (unless v (held_at s h (records_in s)).chip h.chip) ≡ true
@@ -81,32 +82,27 @@ run_keeps_sound {h} {s} {a} ran ok = rw ran.chip (by (run_verdict h s (length a)
     by (refused n vs) = ok
 
 -- and what `run_from_power_on` promises: it leaves a sound chip
-pub run_from_power_on_sound : {s a : List ℕ} {r : RunAnswer} {c' : Ds3231} {st' : List I2cDiagnostic} {a' : List ℕ} → Ran clockrun_held s a r c' st' a' → sound c' ≡ true
+pub run_from_power_on_sound : {s a : List ℕ} {r : Result (Unit {0}) RunError} {c' : Ds3231} {st' : List I2cDiagnostic} {a' : List ℕ} → Ran clockrun_held s a r c' st' a' → sound c' ≡ true
 run_from_power_on_sound ran = run_keeps_sound ran power_on_is_sound
 
--- the answer that a number stands for
-abbrev run_of : Numbered (Unit {0}) → RunAnswer
-run_of (accepted u) = Done
-run_of (refused n vs) =
-    if eqb n 10 then NotSound
-    else if eqb n 11 then StoreLength
-    else if eqb n 15 then AnswersLength
-    else Script (fault_back n vs)
+-- the error that a row is of
+abbrev run_of : Row → RunError
+run_of r =
+    if eqb r.number 10 then NotSound
+    else if eqb r.number 11 then StoreLength
+    else if eqb r.number 15 then AnswersLength
+    else Script (fault_back r)
 
-fault_back_lem : (f : ScriptFault) → run_of (run_numbered (Script f)) ≡ Script f
-fault_back_lem TooLong = refl
-fault_back_lem NotWhole = refl
-fault_back_lem (Kind i) = refl
-fault_back_lem (Value i) = refl
-fault_back_lem (Padding i) = refl
-fault_back_lem (Falling i) = refl
-
-run_back : (r : RunAnswer) → run_of (run_numbered r) ≡ r
-run_back Done = refl
+run_back : (e : RunError) → run_of (run_row e) ≡ e
 run_back NotSound = refl
 run_back StoreLength = refl
 run_back AnswersLength = refl
-run_back (Script f) = fault_back_lem f
+run_back (Script TooLong) = refl
+run_back (Script NotWhole) = refl
+run_back (Script (Record i Kind)) = refl
+run_back (Script (Record i Value)) = refl
+run_back (Script (Record i Padding)) = refl
+run_back (Script (Record i Falling)) = refl
 
-pub run_lossless : (a b : RunAnswer) → run_numbered a ≡ run_numbered b → a ≡ b
-run_lossless = lossless run_numbered run_of run_back
+pub run_lossless : {A : Type 0} (a b : Result A RunError) → answered run_row a ≡ answered run_row b → a ≡ b
+run_lossless = answered_lossless run_row (lossless run_row run_of run_back)

@@ -6,7 +6,6 @@ use mathlib.Core.List.{List, [], ◌∷◌, ◌++◌}
 use mathlib.Core.Path.{◌≡◌, refl, sym, ap, ap₂, ◌∙◌, subst}
 use native.Mathlib.Numerals.{add-one}
 use native.Mathlib.Omega.{arith}
-use borrow.Author.Tests.{lt-ltb, le-ltb}
 use lib.ListN.{length, take, set, length-set}
 use lib.Seq.{take_all, take-suc-set}
 use Rattle.refusals.specs.Numbered.{Numbered, accepted, and_then, unless}
@@ -18,20 +17,23 @@ use Rattle.diagnostics.proofs.Counts.{stored_all_length}
 use Rattle.ds3231.specs.Calls.{sound, bus, step, step_chip, chip_by, store_by, answered_by}
 use Rattle.ds3231.specs.declared.Ds3231.{Ds3231}
 use Rattle.ds3231.specs.declared.Event.{Event}
-use Rattle.ds3231_step.specs.Answers.{reports_of, SteppedBy}
+use Rattle.ds3231_step.specs.Answers.{SteppedBy}
 use Rattle.ds3231_step.specs.declared.Stepped.{Stepped}
-use Rattle.script.specs.Records.{records_in}
+use Rattle.script_check.specs.Records.{records_in}
 use Rattle.script.specs.Runs.{Held, held_at, answers_to, answer_at, answer_byte, reply_byte, event_of, run_verdict, Ran}
-use Rattle.script.specs.declared.runs.RunAnswer.TheVariants.{Done}
+use Rattle.std.specs.Prelude.{Ok, option_to_list, Option, Some, None, MatchOption, IsSomeAnd}
+use Rattle.diagnostics.specs.ByValue.{posted}
+use Rattle.diagnostics.specs.declared.Posting.{Posting}
+use Rattle.diagnostics.proofs.Stores.{post_stores}
 use Rattle.script.proofs.RunLaws.{none_refused}
 use Rattle.script.proofs.RunVerdicts.{accepted_held}
 
--- a report is stored in the next free place, and nowhere in a full store
-pub stored_one : (x : I2cDiagnostic) (n : Diagnostics) (rs : List I2cDiagnostic) → n.waiting < 256 → set rs n.waiting x ≡ stored_all (x ∷ []) n rs
-stored_one x n rs l = rw (lt-ltb _ _ l)
-
-pub stored_full : (x : I2cDiagnostic) (n : Diagnostics) (rs : List I2cDiagnostic) → 256 ≤ n.waiting → rs ≡ stored_all (x ∷ []) n rs
-stored_full x n rs l = rw (le-ltb _ _ l)
+-- a report is posted at the waiting count before it
+pub posts_report : (r : Option I2cDiagnostic) (n : Diagnostics) (p : Option Posting) → MatchOption r (p ≡ None) (λ d. IsSomeAnd p (λ q. q ≡ record { slot = n.waiting; «record» = d }))
+    → (rs : List I2cDiagnostic) → length rs ≡ 256 → posted p rs ≡ stored_all (option_to_list r) n rs
+posts_report None n p e rs l = rw e
+posts_report (Some d) n None e rs l = absurd e
+posts_report (Some d) n (Some q) e rs l = rw e (post_stores n d rs l)
 
 -- ---- the turns
 
@@ -72,7 +74,7 @@ module _ (h : Held) (s : List ℕ) where
 
   pub turn : (n i : ℕ) (c : Ds3231) (rs : List I2cDiagnostic) (a : List ℕ) → Through h s n i c rs a → i < n
       → (e : Event) → e ≡ event_of s i → (p : Stepped) → SteppedBy (step e c) c p
-      → (rs' : List I2cDiagnostic) → rs' ≡ stored_all (reports_of p.report) c.diagnostics rs → (b : ℕ) → b ≡ reply_byte p.reply
+      → (rs' : List I2cDiagnostic) → rs' ≡ stored_all (option_to_list p.report) c.diagnostics rs → (b : ℕ) → b ≡ reply_byte p.reply
       → Through h s n (i + 1) p.chip rs' (set a i b)
   unfolding answers_to
   turn n i c rs a t l e ee p by rs' is b eb =
@@ -92,7 +94,7 @@ module _ (h : Held) (s : List ℕ) where
       } in
       subst (λ (j : ℕ). Through h s n j p.chip rs' (set a i b)) (sym (add-one i)) k
 
-  pub ends : (n i : ℕ) (c : Ds3231) (rs : List I2cDiagnostic) (a a' : List ℕ) → Through h s n i c rs a' → n ≤ i → run_verdict h s (length a) ≡ accepted tt → Ran h s a Done c rs a'
+  pub ends : (n i : ℕ) (c : Ds3231) (rs : List I2cDiagnostic) (a a' : List ℕ) → Through h s n i c rs a' → n ≤ i → run_verdict h s (length a) ≡ accepted tt → Ran h s a (Ok tt) c rs a'
   ends n i c rs a a' t l v =
       let e : i ≡ records_in s = omega (arith, t.count) in
       record {

@@ -1,17 +1,20 @@
 -- What a run of a script answers and leaves, by the chip's own calls, record after record: document 01, 'Script answers' and 'The table of refusals'. Assumes nothing.
 use Rattle.computed.specs.Prelude.{ℕ, zero, suc, not, List, [], eqb, length, replicate, nat_abs}
-use Rattle.std.specs.Prelude.{◌+◌, ◌*◌, ◌/◌, ◌%◌, ◌∷◌, ◌++◌, ◌≡◌, if◌then◌else◌}
-use Rattle.refusals.specs.Numbered.{Numbered, accepted, refused, and_then, unless}
+use Rattle.std.specs.Prelude.{◌+◌, ◌*◌, ◌/◌, ◌%◌, ◌∷◌, ◌++◌, ◌≡◌, if◌then◌else◌, Result, Ok, Err}
+use Rattle.refusals.specs.Numbered.{Numbered, accepted, refused, and_then, unless, Row, answered}
 use Rattle.diagnostics.specs.Reports.{unwritten}
 use Rattle.diagnostics.specs.declared.I2cDiagnostic.{I2cDiagnostic}
+use Rattle.diagnostics.specs.declared.LentError.{LentError}
+use Rattle.diagnostics.specs.declared.LentError.TheVariants as Lent
 use Rattle.ds3231.specs.Calls.{sound, chip_on, default_config, Answered, replied, copied, bus, chip_after, store_after, answer}
 use Rattle.ds3231.specs.declared.Ds3231.{Ds3231}
 use Rattle.ds3231.specs.declared.Event.{Event}
 use Rattle.ds3231.specs.declared.Event.TheVariants.{Start, Write, Read, Stop}
 use Rattle.ds3231.specs.declared.Reply as Reply
-use Rattle.script.specs.Records.{instant_of, kind_of, value_of, records_in, checked_length, checked_from, fault_numbered}
-use Rattle.script.specs.declared.runs.RunAnswer.{RunAnswer}
-use Rattle.script.specs.declared.runs.RunAnswer.TheVariants.{Done, NotSound, StoreLength, AnswersLength, Script}
+use Rattle.script_check.specs.Records.{instant_of, kind_of, value_of, records_in, checked_length, checked_from, fault_row}
+use Rattle.script.specs.declared.errors.RunError.{RunError}
+use Rattle.script.specs.declared.errors.RunError.TheVariants.{NotSound, StoreLength, AnswersLength, Script}
+use Rattle.script.specs.declared.runs.RunOutcome.{RunOutcome}
 
 -- 'Script answers': START address times 2 plus read bit, WRITE data, READ 1 or 0 for the master's acknowledge
 unfoldable pub event_of : List ℕ → ℕ → Event
@@ -53,13 +56,17 @@ unfoldable pub answers_to : List ℕ → Held → ℕ → List ℕ
 answers_to s h zero = []
 answers_to s h (suc n) = answers_to s h n ++ (answer_at s h n ∷ [])
 
--- 'The table of refusals': the numbers of what a run answers
-abbrev pub run_numbered : RunAnswer → Numbered (Unit {0})
-run_numbered Done = accepted tt
-run_numbered NotSound = refused 10 []
-run_numbered StoreLength = refused 11 []
-run_numbered AnswersLength = refused 15 []
-run_numbered (Script f) = fault_numbered f
+-- 'The table of refusals': the row of why a run is refused
+abbrev pub run_row : RunError → Row
+run_row NotSound = record { number = 10; values = [] }
+run_row StoreLength = record { number = 11; values = [] }
+run_row AnswersLength = record { number = 15; values = [] }
+run_row (Script f) = fault_row f
+
+-- the refusal of a chip or a store, as one of a run
+abbrev pub lent_refusal : LentError → RunError
+lent_refusal Lent.NotSound = NotSound
+lent_refusal Lent.StoreLength = StoreLength
 
 -- 'The table of refusals': 14, 13, 15, then record by record 16 to 19; `room` is how many answer bytes are lent
 unfoldable pub checked_run : List ℕ → ℕ → Numbered (Unit {0})
@@ -70,11 +77,16 @@ unfoldable pub run_verdict : Held → List ℕ → ℕ → Numbered (Unit {0})
 run_verdict h s room = if not (sound h.chip) then refused 10 [] else if not (eqb (length h.store) 256) then refused 11 [] else checked_run s room
 
 -- a run: its answer, and the chip, the store and the answer bytes after it. 'The table of refusals': refusals change nothing
-pub record Ran (h : Held) (s : List ℕ) (a : List ℕ) (r : RunAnswer) (c' : Ds3231) (st' : List I2cDiagnostic) (a' : List ℕ) : Type 0 where
-  pub answers : run_numbered r ≡ run_verdict h s (length a)
+pub record Ran (h : Held) (s : List ℕ) (a : List ℕ) (r : Result (Unit {0}) RunError) (c' : Ds3231) (st' : List I2cDiagnostic) (a' : List ℕ) : Type 0 where
+  pub answers : answered run_row r ≡ run_verdict h s (length a)
   pub chip : c' ≡ unless (run_verdict h s (length a)) (held_at s h (records_in s)).chip h.chip
   pub store : st' ≡ unless (run_verdict h s (length a)) (held_at s h (records_in s)).store h.store
   pub bytes : a' ≡ unless (run_verdict h s (length a)) (answers_to s h (records_in s)) a
+
+-- a run by value: what it leaves of the chip and the store; a refusal leaves the caller's as they are
+abbrev pub RanByValue : Held → List ℕ → List ℕ → Result RunOutcome RunError → List ℕ → Type 0
+RanByValue h s a (Ok o) a' = Ran h s a (Ok tt) o.chip o.records a'
+RanByValue h s a (Err e) a' = Ran h s a (Err e) h.chip h.store a'
 
 -- 'Script answers': `clockrun` runs a script from power-on
 abbrev pub clockrun_held : Held

@@ -1,45 +1,30 @@
 // The run of a script: each record's event on the chip, its answer, and its report in the store.
-ghost use Rattle.std.specs.Prelude.{◌≡◌, ◌≤◌, ◌+◌, ◌*◌, length};
-ghost use Rattle.refusals.specs.Numbered.{accepted};
-ghost use Rattle.script.specs.Records.{checked_length};
-ghost use Rattle.script.specs.Runs.{event_of, reply_byte, clockrun_held, run_numbered, checked_run, run_verdict, Ran};
-ghost use Rattle.script.specs.ByValue.{CheckedOnStores, RanOnStores, whole_of};
+ghost use Rattle.std.specs.Prelude.{◌≡◌, Ok, length};
+ghost use Rattle.refusals.specs.Numbered.{accepted, and_then, answered};
+ghost use Rattle.ds3231_chip.specs.Answers.{lent_verdict};
+ghost use Rattle.script.specs.Runs.{clockrun_held, run_row, checked_run, run_verdict, Ran, RanByValue};
 
-use crate::checks::{check_length, check_records};
-use crate::{CheckAnswer, RECORD, ScriptFault, records};
-use diagnostics::{I2cDiagnostic, MAX_DIAGNOSTICS};
-use ds3231::{Ds3231, Ds3231Config, Event, Reply};
-use ds3231_chip::{is_sound, power_on};
-use ds3231_step::{Report, step};
+use crate::RunError;
+use crate::events::{answer_byte, event};
+use diagnostics::{I2cDiagnostic, MAX_DIAGNOSTICS, Posting, post};
+use ds3231::{Ds3231, Ds3231Config};
+use ds3231_chip::{checked_lent, power_on};
+use ds3231_step::step;
+use script_check::{RECORD, check_length, check_records};
 
-// What a run answers.
-#[derive(Clone, Copy)]
-pub enum RunAnswer {
-    Done,
-    NotSound,
-    // The store does not have 256 records.
-    StoreLength,
-    // Not one answer byte is lent for each record.
-    AnswersLength,
-    Script(ScriptFault),
-}
-
-// The chip and the records after a run, and its answer.
+// The chip and the records after a run.
 #[derive(Clone, Copy)]
 pub struct RunOutcome {
     pub chip: Ds3231,
-    pub answer: RunAnswer,
     pub records: [I2cDiagnostic; 256],
 }
 
 // Runs a script from 2026-01-01T00:00:00, oscillator not stopped, 100 quarters.
-pub fn run_from_power_on(script: &[u8], answers: &mut [u8]) -> RunOutcome
-    ensures { Ran clockrun_held script.now answers.old result.answer result.chip result.records answers.new }
+pub fn run_from_power_on(script: &[u8], answers: &mut [u8]) -> Result<RunOutcome, RunError>
+    ensures { RanByValue clockrun_held script.now answers.old result answers.new }
 {
-    let powered = power_on(Ds3231Config::default());
-    let chip = powered.chip;
-    let unwritten = I2cDiagnostic::unwritten();
-    let records = [unwritten; 256];
+    let chip = power_on(Ds3231Config::default()).unwrap();
+    let records = [I2cDiagnostic::unwritten(); MAX_DIAGNOSTICS];
     run_values(chip, records, script, answers)
 }
 
@@ -49,172 +34,62 @@ pub fn run(
     store: &mut [I2cDiagnostic],
     script: &[u8],
     answers: &mut [u8],
-) -> RunAnswer
+) -> Result<(), RunError>
     ensures { Ran (record { chip = chip.old; store = store.old }) script.now answers.old result chip.new store.new answers.new }
 {
-    let c = *chip;
-    let n = whole(store.len());
-    let mut records = [I2cDiagnostic::unwritten(); 256];
-    let mut i = 0;
-    while i < n {
-        records[i] = store[i];
-        i += 1;
-    }
-    let out = ran(c, store.len(), records, script, answers);
-    *chip = out.chip;
-    let back = out.records;
-    let mut j = 0;
-    while j < n {
-        store[j] = back[j];
-        j += 1;
-    }
-    out.answer
+    checked(*chip, store.len(), script, answers.len())?;
+    let mut records = [I2cDiagnostic::unwritten(); MAX_DIAGNOSTICS];
+    records.copy_from_slice(store);
+    let ran = events(*chip, records, script, answers);
+    *chip = ran.chip;
+    store.copy_from_slice(&ran.records);
+    Ok(())
 }
 
-// How many records of a store are copied: all of 256, else none.
-fn whole(len: usize) -> usize
-    ensures { result ≡ whole_of len }
-{
-    if len == MAX_DIAGNOSTICS {
-        return MAX_DIAGNOSTICS;
-    }
-    0
-}
-
-// Runs a script on a chip and 256 records.
+// Runs a script on a chip and 256 records. A refusal leaves them as they are.
 pub fn run_values(
     chip: Ds3231,
     records: [I2cDiagnostic; 256],
     script: &[u8],
     answers: &mut [u8],
-) -> RunOutcome
-    ensures { Ran (record { chip = chip; store = records }) script.now answers.old result.answer result.chip result.records answers.new }
+) -> Result<RunOutcome, RunError>
+    ensures { RanByValue (record { chip = chip; store = records }) script.now answers.old result answers.new }
 {
-    ran(chip, MAX_DIAGNOSTICS, records, script, answers)
+    checked(chip, MAX_DIAGNOSTICS, script, answers.len())?;
+    Ok(events(chip, records, script, answers))
 }
 
-// The same for a store of `len` records, which are `records` where there are 256: else the run is refused.
-pub(crate) fn ran(
-    chip: Ds3231,
-    len: usize,
-    records: [I2cDiagnostic; 256],
-    script: &[u8],
-    answers: &mut [u8],
-) -> RunOutcome
-    ensures { RanOnStores chip len records script.now answers.old result answers.new }
+// The chip, the store of `len` records, the script's length, the `room` for answers, then the script's records.
+fn checked(chip: Ds3231, len: usize, script: &[u8], room: usize) -> Result<(), RunError>
+    ensures { answered run_row result ≡ and_then (lent_verdict chip len) (checked_run script.now room) }
 {
-    let verdict = checked(chip, len, script, answers.len());
-    match verdict {
-        RunAnswer::Done => events(chip, records, script, answers),
-        _ => RunOutcome {
-            chip,
-            answer: verdict,
-            records,
-        },
-    }
-}
-
-// The first refusal, or `Done` where the run goes through: the chip, the store of `len` records, then the script.
-fn checked(chip: Ds3231, len: usize, script: &[u8], room: usize) -> RunAnswer
-    ensures { CheckedOnStores chip len script.now room result }
-{
-    if !is_sound(chip) {
-        return RunAnswer::NotSound;
-    }
-    if len != MAX_DIAGNOSTICS {
-        return RunAnswer::StoreLength;
-    }
-    checked_run(script, room)
-}
-
-// The script's length, then the `room` for answers, then its records.
-fn checked_run(script: &[u8], room: usize) -> RunAnswer
-    ensures { run_numbered result ≡ checked_run script.now room }
-{
-    match check_length(script.len()) {
-        CheckAnswer::Legal => checked_room(script, room),
-        CheckAnswer::Refused(fault) => RunAnswer::Script(fault),
-    }
-}
-
-// The same of a script whose length is legal.
-fn checked_room(script: &[u8], room: usize) -> RunAnswer
-    requires { checked_length (length script.now) ≡ accepted tt }
-    ensures { run_numbered result ≡ checked_run script.now room }
-{
+    checked_lent(chip, len)?;
+    check_length(script.len())?;
     if room != script.len() / RECORD {
-        return RunAnswer::AnswersLength;
+        return Err(RunError::AnswersLength);
     }
-    match check_records(script) {
-        CheckAnswer::Legal => RunAnswer::Done,
-        CheckAnswer::Refused(first) => RunAnswer::Script(first),
-    }
+    check_records(script)?;
+    Ok(())
 }
 
 // Every record's event in turn, where nothing refuses the run.
 fn events(
-    chip: Ds3231,
+    mut chip: Ds3231,
     mut records: [I2cDiagnostic; 256],
     script: &[u8],
     answers: &mut [u8],
 ) -> RunOutcome
     requires { run_verdict (record { chip = chip; store = records }) script.now (length answers.old) ≡ accepted tt }
-    ensures { Ran (record { chip = chip; store = records }) script.now answers.old result.answer result.chip result.records answers.new }
+    ensures { Ran (record { chip = chip; store = records }) script.now answers.old (Ok tt) result.chip result.records answers.new }
 {
-    let mut chip = chip;
-    let n = answers.len();
-    let mut i = 0;
-    while i < n {
-        let counts = chip.diagnostics;
-        let stepped = step(chip, bus_event(script, i));
+    let (chunks, _) = script.as_chunks::<RECORD>();
+    for (i, bytes) in chunks.iter().enumerate() {
+        let slot = chip.diagnostics.waiting;
+        let stepped = step(chip, event(*bytes));
         chip = stepped.chip;
-        let reply = stepped.reply;
-        answers[i] = answer_byte(reply);
-        let report = stepped.report;
-        if let Report::One(diagnostic) = report {
-            let slot = counts.waiting;
-            if slot < MAX_DIAGNOSTICS {
-                records[slot] = diagnostic;
-            }
-        }
-        i += 1;
+        answers[i] = answer_byte(stepped.reply);
+        let posting = stepped.report.map(|record| Posting { slot, record });
+        post(&mut records, posting);
     }
-    RunOutcome {
-        chip,
-        answer: RunAnswer::Done,
-        records,
-    }
-}
-
-// The event of record `i`.
-fn bus_event(script: &[u8], i: usize) -> Event
-    requires { 16 * i + 16 ≤ length script.now }
-    ensures { result ≡ event_of script.now i }
-{
-    let at = records::instant(script, i);
-    let value = records::value(script, i);
-    match records::kind(script, i) {
-        0 => Event::Start {
-            address: value / 2,
-            read: value % 2 == 1,
-            at,
-        },
-        1 => Event::Write { byte: value, at },
-        2 => Event::Read {
-            acknowledged: value == 1,
-            at,
-        },
-        _ => Event::Stop { at },
-    }
-}
-
-// START and WRITE 1 or 0, READ the byte, STOP 0.
-fn answer_byte(reply: Reply) -> u8
-    ensures { result ≡ reply_byte reply }
-{
-    match reply {
-        Reply::Acknowledge(acknowledged) => acknowledged as u8,
-        Reply::Byte(byte) => byte,
-        Reply::Done => 0,
-    }
+    RunOutcome { chip, records }
 }

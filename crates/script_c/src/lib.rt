@@ -4,7 +4,7 @@
 
 ghost use Rattle.std.specs.Prelude.{◌≡◌, length};
 ghost use Rattle.refusals.specs.Numbered.{unless};
-ghost use Rattle.script.specs.Records.{checked_script, records_in};
+ghost use Rattle.script_check.specs.Records.{checked_script, records_in};
 ghost use Rattle.script.specs.Runs.{host_number, checked_run, answers_to, clockrun_held};
 
 // Checks a script.

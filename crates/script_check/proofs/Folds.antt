@@ -1,21 +1,17 @@
 -- Document 02, Order 3: the check as a fold of the judge, with the last instant as a running number, has the answers of the definition.
 -- Assumes nothing.
-use Prim.Native.Nat.{ℕ, zero, suc, ◌+◌, ◌-◌, ◌*◌, ◌≤◌, ◌<◌}
-use mathlib.Core.List.{List, [], ◌∷◌}
-use mathlib.Core.Path.{◌≡◌, refl, sym, ap, ap₂, ◌∙◌}
-use native.Mathlib.Numerals.{add-one}
-use native.Mathlib.Omega.{arith}
-use borrow.Author.Tests.{lt-ltb}
-use lib.IntN.{ℤ, pos}
-use lib.ListN.{length, get_or, drop, length-drop}
-use lib.Seq.{length-take-le, get_or-take, get_or-drop}
-use Rattle.refusals.specs.Numbered.{Numbered, accepted, refused, and_then}
-use Rattle.script_check.specs.Records.{little_endian, instant_of, kind_of, value_of, padding_of, records_in, last_of, judged_after, record_fault, judgement_numbered, verdict_of, checked_length, checked_from, checked_script, fault_number, fault_numbered}
+use Rattle.std.proofs.Common.{◌≡◌, ℕ, zero, suc, ◌+◌, ◌-◌, ◌*◌, ◌≤◌, ◌<◌, List, [], length, get_or, drop, ℤ, refl, sym, ap, ◌∙◌, add-one, arith, length-drop, Result, Ok, Err, MatchResult, IsErrAnd}
+use Rattle.std.proofs.lemmas.Result.{err_from_is_err_and}
+use Rattle.std.proofs.lemmas.List.{length-take-le, get_or-take, get_or-drop}
+use Rattle.std.proofs.lemmas.Bool.{lt-ltb}
+use Rattle.std.specs.Simd.{first_chunks}
+use Rattle.refusals.specs.Numbered.{Numbered, accepted, refused, and_then, answered, refused_by}
+use Rattle.script_check.specs.Records.{little_endian, instant_of, kind_of, value_of, padding_of, records_in, last_of, judged_after, record_fault, judgement_numbered, verdict_of, checked_length, checked_from, checked_script, fault_row}
 use Rattle.script_check.specs.Judging.{bytes_of, record_at, judged, moved_on, running, folded_script}
-use Rattle.script_check.specs.declared.Judgement.{Judgement}
-use Rattle.script_check.specs.declared.Judgement.TheVariants.{Instant, Fault}
-use Rattle.script_check.specs.declared.RecordFault.{RecordFault}
-use Rattle.script_check.specs.declared.ScriptFault.TheVariants.{Record}
+use Rattle.script_check.specs.declared.faults.RecordFault.{RecordFault}
+use Rattle.script_check.specs.declared.faults.ScriptFault.{ScriptFault}
+use Rattle.script_check.specs.declared.faults.ScriptFault.TheVariants.{Record}
+use Rattle.script_check.proofs.Bytes.{part_number, chunk}
 use Rattle.script_check.proofs.LegalRecords.{passing}
 
 -- ---- a record by its own bytes
@@ -32,15 +28,8 @@ module _ (s : List ℕ) (i : ℕ) where
   own_byte : (k : ℕ) → k < 16 → get_or (bytes_of s i) k 0 ≡ get_or s (16 * i + k) 0
   own_byte k h = get_or-take 16 (drop (16 * i) s) k 0 h ∙ get_or-drop (16 * i) s k 0
 
-  own_number : (from k : ℕ) → from + k ≤ 16 → little_endian (bytes_of s i) from k ≡ little_endian s (16 * i + from) k
-  unfolding little_endian
-  own_number from zero h = refl
-  own_number from (suc k) h =
-      let next : little_endian s (16 * i + (from + 1)) k ≡ little_endian s (16 * i + from + 1) k = ap (λ (x : ℕ). little_endian s x k) (omega arith) in
-      ap₂ (λ (x y : ℕ). x + 256 * y) (own_byte from (omega arith)) (own_number (from + 1) k (omega arith) ∙ next)
-
   pub own_instant : instant_of (bytes_of s i) 0 ≡ instant_of s i
-  own_instant = own_number 0 8 (omega arith) ∙ ap (λ (x : ℕ). little_endian s x 8) (omega arith)
+  own_instant = part_number s (16 * i) 16 0 8 (omega arith) ∙ ap (λ (x : ℕ). little_endian s x 8) (omega arith)
 
   pub own_kind : kind_of (bytes_of s i) 0 ≡ kind_of s i
   own_kind = own_byte 8 (omega arith)
@@ -49,7 +38,7 @@ module _ (s : List ℕ) (i : ℕ) where
   own_value = own_byte 9 (omega arith)
 
   own_padding : padding_of (bytes_of s i) 0 ≡ padding_of s i
-  own_padding = own_number 10 6 (omega arith)
+  own_padding = part_number s (16 * i) 16 10 6 (omega arith)
 
   -- the judge sees all that the definition asks of a record
   pub own_judged : (last : ℕ) → judged (bytes_of s i) last ≡ judged_after s i last
@@ -57,7 +46,7 @@ module _ (s : List ℕ) (i : ℕ) where
   own_judged last = rw (own_kind, own_value, own_padding, own_instant)
 
   -- a record that nothing is wrong with is judged by its instant
-  pub judged_instant : (last at : ℕ) → judged_after s i last ≡ Instant at → at ≡ instant_of s i
+  pub judged_instant : (last at : ℕ) → judged_after s i last ≡ Ok at → at ≡ instant_of s i
   judged_instant last at e = (passing s i last at e).own
 
 -- ---- the fold
@@ -92,9 +81,9 @@ module _ (s : List ℕ) where
   moves_on i (refused number values) = refl
   moves_on i (accepted u) = ap (judgement_numbered i) (own_judged s i (last_of s i)) ∙ by (record_fault s i) refl
     where
-      by : (j : Judgement) → record_fault s i ≡ j → judgement_numbered i j ≡ and_then (verdict_of (judgement_numbered i j)) (accepted (instant_of s i))
-      by (Instant at) e = ap (λ (x : ℕ). accepted x) (judged_instant s i (last_of s i) at e)
-      by (Fault f) e = refl
+      by : (j : Result ℕ RecordFault) → record_fault s i ≡ j → judgement_numbered i j ≡ and_then (verdict_of (judgement_numbered i j)) (accepted (instant_of s i))
+      by (Ok at) e = ap (λ (x : ℕ). accepted x) (judged_instant s i (last_of s i) at e)
+      by (Err f) e = refl
 
   -- up to record i without a fault the running number is the instant of record i - 1, or 0; after a fault it is the refusal of the first record that has one
   pub running_is : (i : ℕ) → running s i ≡ and_then (checked_from s 0 i) (accepted (last_of s i))
@@ -112,6 +101,11 @@ pub folded_same : (s : List ℕ) → folded_script s ≡ checked_script s
 folded_same s = ap (and_then (checked_length (length s))) (verdict_same s (records_in s))
 
 -- ---- the loop
+
+-- a judgement of record i with its faults as the script's
+pub numbered : (i : ℕ) (r : Result ℕ RecordFault) (m : Result ℕ ScriptFault) → MatchResult r (λ at. m ≡ Ok at) (λ f. IsErrAnd m (λ d. d ≡ Record i f)) → answered fault_row m ≡ judgement_numbered i r
+numbered i (Ok at) m e = ap (answered fault_row) e
+numbered i (Err f) m e = let p : (d : ScriptFault) × (m ≡ Err d) × (d ≡ Record i f) = err_from_is_err_and m e in rw (p.1, p.2)
 
 module _ (s : List ℕ) where
   -- after a refusal nothing is judged
@@ -133,16 +127,17 @@ module _ (s : List ℕ) where
     pub ends : records_in s ≤ i → accepted (tt {0}) ≡ checked_from s 0 (records_in s)
     ends h = let e : i ≡ records_in s = omega (arith, p.within) in sym (ap verdict_of p.number) ∙ ap (λ (k : ℕ). verdict_of (running s k)) e ∙ verdict_same s (records_in s)
 
-    module _ (h : i < records_in s) (bytes : List ℕ) (own : bytes ≡ record_at s i) (j : Judgement) (e : j ≡ judged bytes last) where
+    module _ (h : i < records_in s) (records : List (List ℕ)) (own : records ≡ first_chunks 16 (records_in s) s) (r : Result ℕ RecordFault) (e : r ≡ judged (get_or records i []) last)
+        (m : Result ℕ ScriptFault) (q : answered fault_row m ≡ judgement_numbered i r) where
       -- the number, or the refusal, after record i
-      after : running s (suc i) ≡ judgement_numbered i j
+      after : running s (suc i) ≡ answered fault_row m
       unfolding running
-      after = ap₂ (moved_on i) (sym (own ∙ record_own s i h)) p.number ∙ ap (judgement_numbered i) (sym e)
+      after = rw p.number (cc (chunk 16 (records_in s) s i [] h))
 
-      pub passes : (at : ℕ) → j ≡ Instant at → Passed (i + 1) at
-      passes at q = record { within = omega arith; number = ap (running s) (add-one i) ∙ after ∙ ap (judgement_numbered i) q }
+      pub passes : (at : ℕ) → m ≡ Ok at → Passed (i + 1) at
+      passes at k = record { within = omega arith; number = ap (running s) (add-one i) ∙ after ∙ ap (answered fault_row) k }
 
-      pub stops : (f : RecordFault) → j ≡ Fault f → fault_numbered (Record i f) ≡ checked_from s 0 (records_in s)
-      stops f q =
+      pub stops : (f : ScriptFault) → m ≡ Err f → refused_by (fault_row f) ≡ checked_from s 0 (records_in s)
+      stops f k =
           let z : records_in s - suc i + suc i ≡ records_in s = omega arith in
-          sym (ap verdict_of (sym (ap (running s) z) ∙ stays_refused (fault_number f) (pos i ∷ []) (suc i) (records_in s - suc i) (after ∙ ap (judgement_numbered i) q))) ∙ verdict_same s (records_in s)
+          sym (ap verdict_of (sym (ap (running s) z) ∙ stays_refused (fault_row f).number (fault_row f).values (suc i) (records_in s - suc i) (after ∙ ap (answered fault_row) k))) ∙ verdict_same s (records_in s)

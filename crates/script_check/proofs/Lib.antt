@@ -1,6 +1,5 @@
 pub mod Bytes
 pub mod LegalRecords
 pub mod Folds
-pub mod CheckVerdicts
 pub mod Laws
 pub mod Lossless

@@ -1,9 +1,9 @@
 -- Need not be believed: `folded_same` of proofs/Folds.antt says that for every script the fold's answer is that of `checked_script`, which `check` promises. What document 02, Order 3, asks of the judge, to go by a record's own sixteen bytes and the running number alone, is read here. Assumes nothing.
 use Rattle.computed.specs.Prelude.{ℕ, zero, suc, List, ltb, length, take, drop, replicate}
-use Rattle.std.specs.Prelude.{◌*◌, if◌then◌else◌}
+use Rattle.std.specs.Prelude.{◌*◌, if◌then◌else◌, Result}
 use Rattle.refusals.specs.Numbered.{Numbered, accepted, refused, and_then}
 use Rattle.script_check.specs.Records.{records_in, judged_after, judgement_numbered, verdict_of, checked_length}
-use Rattle.script_check.specs.declared.Judgement.{Judgement}
+use Rattle.script_check.specs.declared.faults.RecordFault.{RecordFault}
 
 -- the sixteen bytes of record i, of a script that has it
 abbrev pub bytes_of : List ℕ → ℕ → List ℕ
@@ -14,7 +14,7 @@ unfoldable pub record_at : List ℕ → ℕ → List ℕ
 record_at s i = if ltb i (records_in s) then bytes_of s i else replicate 16 0
 
 -- Order 3: a record is judged by its own sixteen bytes, which alone are a script of one record, and the running number
-abbrev pub judged : List ℕ → ℕ → Judgement
+abbrev pub judged : List ℕ → ℕ → Result ℕ RecordFault
 judged bytes last = judged_after bytes 0 last
 
 -- one record more: what the judge answers of record i by the number before it; a refusal stays, and nothing is judged after it

@@ -1,14 +1,12 @@
 -- A script's records, which scripts are legal, and what the check answers: document 01, 'Script answers' and 'The table of refusals'. Assumes nothing.
-use Rattle.computed.specs.Prelude.{ℕ, zero, suc, Bool, List, [], ltb, eqb, length, get_or, pos}
-use Rattle.std.specs.Prelude.{◌+◌, ◌*◌, ◌≤◌, ◌<◌, ◌/◌, ◌%◌, ◌&&◌, ◌||◌, ◌∷◌, ◌≡◌, if◌then◌else◌}
-use Rattle.refusals.specs.Numbered.{Numbered, accepted, refused, and_then}
-use Rattle.script_check.specs.declared.CheckAnswer as CheckAnswer
-use Rattle.script_check.specs.declared.Judgement.{Judgement}
-use Rattle.script_check.specs.declared.Judgement.TheVariants.{Instant, Fault}
-use Rattle.script_check.specs.declared.RecordFault.{RecordFault}
-use Rattle.script_check.specs.declared.RecordFault.TheVariants.{Kind, Value, Padding, Falling}
-use Rattle.script_check.specs.declared.ScriptFault.{ScriptFault}
-use Rattle.script_check.specs.declared.ScriptFault.TheVariants.{TooLong, NotWhole, Record}
+use Rattle.computed.specs.Prelude.{ℕ, zero, suc, Bool, List, [], ltb, eqb, length, get_or, ℤ, pos, nat_abs}
+use Rattle.std.specs.Prelude.{◌+◌, ◌*◌, ◌≤◌, ◌<◌, ◌/◌, ◌%◌, ◌&&◌, ◌||◌, ◌∷◌, ◌≡◌, if◌then◌else◌, Option, Some, None, Result, Ok, Err, MatchResult}
+use Rattle.refusals.specs.Numbered.{Numbered, accepted, refused, and_then, Row, answered}
+use Rattle.script_check.specs.declared.kinds.Kind as Kind
+use Rattle.script_check.specs.declared.faults.RecordFault.{RecordFault}
+use Rattle.script_check.specs.declared.faults.RecordFault.TheVariants as Fault
+use Rattle.script_check.specs.declared.faults.ScriptFault.{ScriptFault}
+use Rattle.script_check.specs.declared.faults.ScriptFault.TheVariants.{TooLong, NotWhole, Record}
 
 -- the number that k bytes from a position on make, lowest first; past the end a byte counts as 0
 unfoldable pub little_endian : List ℕ → (from k : ℕ) → ℕ
@@ -35,18 +33,29 @@ padding_of s i = little_endian s (16 * i + 10) 6
 abbrev pub records_in : List ℕ → ℕ
 records_in s = length s / 16
 
+-- 'Script answers': the number of a kind
+abbrev pub kind_number : Kind.Kind → ℕ
+kind_number Kind.TheVariants.Start = 0
+kind_number Kind.TheVariants.Write = 1
+kind_number Kind.TheVariants.Read = 2
+kind_number Kind.TheVariants.Stop = 3
+
+-- 'The table of refusals', 16: the kind of a number; above 3 there is none
+abbrev pub OfKind : ℕ → Result Kind.Kind RecordFault → Type 0
+OfKind number r = MatchResult r (λ k. kind_number k ≡ number) (λ f. (f ≡ Fault.Kind) × (3 < number))
+
 -- 'The table of refusals', 17: READ above 1, STOP not 0
 unfoldable pub bad_value : ℕ → ℕ → Bool
 bad_value kind value = (eqb kind 2 && ltb 1 value) || (eqb kind 3 && ltb 0 value)
 
 -- 'The table of refusals', 16 to 19 in their order: the first that holds of record i where `last` is the previous record's instant; else the record's own instant
-unfoldable pub judged_after : List ℕ → ℕ → (last : ℕ) → Judgement
+unfoldable pub judged_after : List ℕ → ℕ → (last : ℕ) → Result ℕ RecordFault
 judged_after s i last =
-    if ltb 3 (kind_of s i) then Fault Kind
-    else if bad_value (kind_of s i) (value_of s i) then Fault Value
-    else if ltb 0 (padding_of s i) then Fault Padding
-    else if ltb (instant_of s i) last then Fault Falling
-    else Instant (instant_of s i)
+    if ltb 3 (kind_of s i) then Err Fault.Kind
+    else if bad_value (kind_of s i) (value_of s i) then Err Fault.Value
+    else if ltb 0 (padding_of s i) then Err Fault.Padding
+    else if ltb (instant_of s i) last then Err Fault.Falling
+    else Ok (instant_of s i)
 
 -- 'The table of refusals', 19: the previous record's instant; the first record has none before it, and no instant is below 0
 abbrev pub last_of : List ℕ → ℕ → ℕ
@@ -54,20 +63,30 @@ last_of s zero = 0
 last_of s (suc i) = instant_of s i
 
 -- 'The table of refusals', 16 to 19: what is wrong with record i, held against the record before it; or its instant, where nothing is
-abbrev pub record_fault : List ℕ → ℕ → Judgement
+abbrev pub record_fault : List ℕ → ℕ → Result ℕ RecordFault
 record_fault s i = judged_after s i (last_of s i)
 
 -- 'The table of refusals': the numbers of what is wrong with a record
 abbrev pub fault_number : RecordFault → ℕ
-fault_number Kind = 16
-fault_number Value = 17
-fault_number Padding = 18
-fault_number Falling = 19
+fault_number Fault.Kind = 16
+fault_number Fault.Value = 17
+fault_number Fault.Padding = 18
+fault_number Fault.Falling = 19
+
+-- 'The table of refusals': the row of a script's fault; of a record's fault with the record's number
+abbrev pub fault_row : ScriptFault → Row
+fault_row TooLong = record { number = 14; values = [] }
+fault_row NotWhole = record { number = 13; values = [] }
+fault_row (Record i f) = record { number = fault_number f; values = pos i ∷ [] }
+
+-- the record that a refusal names: its value, if it has one
+abbrev pub record_named : List ℤ → Option ℕ
+record_named [] = None
+record_named (i ∷ is) = Some (nat_abs i)
 
 -- a judgement of record i: its instant; or, 'The table of refusals', the number of what is wrong, with the record's number
-abbrev pub judgement_numbered : ℕ → Judgement → Numbered ℕ
-judgement_numbered i (Instant at) = accepted at
-judgement_numbered i (Fault f) = refused (fault_number f) (pos i ∷ [])
+abbrev pub judgement_numbered : ℕ → Result ℕ RecordFault → Numbered ℕ
+judgement_numbered i = answered (λ f. fault_row (Record i f))
 
 -- an answer without the instant that it gives
 abbrev pub verdict_of : Numbered ℕ → Numbered (Unit {0})
@@ -92,7 +111,7 @@ pub record Legal (s : List ℕ) : Type 0 where
 pub record FirstFault (s : List ℕ) (number i : ℕ) : Type 0 where
   pub within : i < records_in s
   pub fault : judgement_numbered i (record_fault s i) ≡ refused number (pos i ∷ [])
-  pub before : (j : ℕ) → j < i → record_fault s j ≡ Instant (instant_of s j)
+  pub before : (j : ℕ) → j < i → record_fault s j ≡ Ok (instant_of s j)
 
 -- 'The table of refusals', of a script's length: 14, then 13
 unfoldable pub checked_length : ℕ → Numbered (Unit {0})
@@ -106,13 +125,3 @@ checked_from s i (suc n) = and_then (verdict_of (judgement_numbered i (record_fa
 -- 'The table of refusals': 14, 13, then record by record 16 to 19. In proofs/Laws.antt: `accepted_legal` and `legal_accepted`, so exactly the legal scripts are accepted; `first_fault`, so the record of a refusal is the first with a fault
 abbrev pub checked_script : List ℕ → Numbered (Unit {0})
 checked_script s = and_then (checked_length (length s)) (checked_from s 0 (records_in s))
-
--- 'The table of refusals': the numbers of a script's faults; of a record's fault with the record's number
-abbrev pub fault_numbered : ScriptFault → Numbered (Unit {0})
-fault_numbered TooLong = refused 14 []
-fault_numbered NotWhole = refused 13 []
-fault_numbered (Record i f) = refused (fault_number f) (pos i ∷ [])
-
-abbrev pub check_numbered : CheckAnswer.CheckAnswer → Numbered (Unit {0})
-check_numbered CheckAnswer.TheVariants.Legal = accepted tt
-check_numbered (CheckAnswer.TheVariants.Refused f) = fault_numbered f

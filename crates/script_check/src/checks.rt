@@ -1,49 +1,44 @@
 // The check of a script.
 ghost use Rattle.std.specs.Prelude.{◌≡◌};
-ghost use Rattle.script_check.specs.Records.{records_in, checked_length, checked_from, checked_script, check_numbered};
+ghost use Rattle.refusals.specs.Numbered.{answered};
+ghost use Rattle.script_check.specs.Records.{records_in, fault_row, checked_length, checked_from, checked_script};
 
 use crate::judging::judge;
-use crate::records::record_at;
-use crate::{CheckAnswer, Judgement, MAX_RECORDS, RECORD, ScriptFault};
+use crate::{MAX_RECORDS, RECORD, ScriptFault};
 
 // The longest script, in bytes.
 const MAX_SCRIPT: usize = RECORD * MAX_RECORDS;
 
 // Checks a script: its length, then record by record.
-pub fn check(script: &[u8]) -> CheckAnswer
-    ensures { check_numbered result ≡ checked_script script.now }
+pub fn check(script: &[u8]) -> Result<(), ScriptFault>
+    ensures { answered fault_row result ≡ checked_script script.now }
 {
-    match check_length(script.len()) {
-        CheckAnswer::Legal => check_records(script),
-        CheckAnswer::Refused(fault) => CheckAnswer::Refused(fault),
-    }
+    check_length(script.len())?;
+    check_records(script)
 }
 
 // The length of a script.
-pub fn check_length(len: usize) -> CheckAnswer
-    ensures { check_numbered result ≡ checked_length len }
+#[tactic(auto, unfolding(crate::specs::Records::checked_length))]
+pub fn check_length(len: usize) -> Result<(), ScriptFault>
+    ensures { answered fault_row result ≡ checked_length len }
 {
     if len > MAX_SCRIPT {
-        return CheckAnswer::Refused(ScriptFault::TooLong);
+        return Err(ScriptFault::TooLong);
     }
     if len % RECORD != 0 {
-        return CheckAnswer::Refused(ScriptFault::NotWhole);
+        return Err(ScriptFault::NotWhole);
     }
-    CheckAnswer::Legal
+    Ok(())
 }
 
 // The first record that is not legal, of all that are whole. `last` is the instant of the record before, 0 before the first.
-pub fn check_records(script: &[u8]) -> CheckAnswer
-    ensures { check_numbered result ≡ checked_from script.now 0 (records_in script.now) }
+pub fn check_records(script: &[u8]) -> Result<(), ScriptFault>
+    ensures { answered fault_row result ≡ checked_from script.now 0 (records_in script.now) }
 {
-    let n = script.len() / RECORD;
+    let (records, _) = script.as_chunks::<RECORD>();
     let mut last = 0;
-    for i in 0..n {
-        let judgement = judge(record_at(script, i), last);
-        match judgement {
-            Judgement::Instant(at) => last = at,
-            Judgement::Fault(fault) => return CheckAnswer::Refused(ScriptFault::Record(i, fault)),
-        }
+    for (i, bytes) in records.iter().enumerate() {
+        last = judge(*bytes, last).map_err(|fault| ScriptFault::Record(i, fault))?;
     }
-    CheckAnswer::Legal
+    Ok(())
 }

@@ -4,11 +4,12 @@
 
 ghost use Rattle.std.specs.Prelude.{◌≡◌, length};
 ghost use Rattle.refusals.specs.Numbered.{unless};
-ghost use Rattle.script.specs.Records.{records_in};
+ghost use Rattle.script_check.specs.Records.{records_in};
 ghost use Rattle.script.specs.Runs.{checked_run, answers_to, clockrun_held};
 
-use diagnostics::{I2cDiagnostic, I2cDiagnosticKind, MAX_DIAGNOSTICS};
-use ds3231::{Clock, Ds3231, PendingTime, Phase, Registers, Timing};
+use diagnostics::{I2cDiagnostic, I2cDiagnosticKind};
+use ds3231::{Clock, Ds3231, PendingTime, Registers, Timing};
+use refusals::Refusal;
 use script::run_from_power_on;
 
 // Runs a script as `clock_script_run` does. The number is for tools/bench alone, which only needs every field of the chip
@@ -16,49 +17,30 @@ use script::run_from_power_on;
 pub fn clock_script_digest(script: &[u8], answers: &mut [u8]) -> u64
     ensures { answers.new ≡ unless (checked_run script.now (length answers.old)) (answers_to script.now clockrun_held (records_in script.now)) answers.old }
 {
-    let ran = run_from_power_on(script, answers);
-    let chip = ran.chip;
-    let records = ran.records;
-    chip_number(chip) ^ store_number(records)
+    match run_from_power_on(script, answers) {
+        Ok(ran) => chip_number(ran.chip) ^ store_number(ran.records),
+        Err(error) => u64::from(error.number()),
+    }
 }
 
 // The number of a chip.
 fn chip_number(chip: Ds3231) -> u64 {
-    let timing = chip.timing;
-    let registers = chip.registers;
     let counts = chip.diagnostics;
-    timing_number(timing) ^ registers_number(registers) ^ counts.waiting as u64 ^ counts.dropped
+    timing_number(chip.timing)
+        ^ registers_number(chip.registers)
+        ^ counts.waiting as u64
+        ^ counts.dropped
 }
 
 fn timing_number(timing: Timing) -> u64 {
-    let phase = timing.phase;
-    let pointer = timing.pointer;
-    let clock = timing.clock;
-    let latched = timing.latched;
-    let pending = timing.pending;
-    let twelve_hour = flag(timing.twelve_hour);
-    let is_pending = flag(timing.is_pending);
-    let small = seven(
-        phase_number(phase),
-        ds3231_map::number(pointer),
-        twelve_hour,
-        is_pending,
-        0,
-        0,
-        0,
-    );
-    small ^ clock_number(clock) ^ seven_bytes(latched) ^ pending_number(pending) ^ timing.pending_at
-}
-
-// The place of a phase among the five.
-fn phase_number(phase: Phase) -> u8 {
-    match phase {
-        Phase::Released => 0,
-        Phase::Pointer => 1,
-        Phase::Writing => 2,
-        Phase::Reading => 3,
-        Phase::Ignoring => 4,
-    }
+    let phase = timing.phase as u8;
+    let pointer = timing.pointer.number();
+    let twelve_hour = u8::from(timing.twelve_hour);
+    seven([phase, pointer, twelve_hour, 0, 0, 0, 0])
+        ^ clock_number(timing.clock)
+        ^ seven(timing.latched)
+        ^ timing.pending.map_or(0, pending_number)
+        ^ timing.pending_at
 }
 
 fn clock_number(clock: Clock) -> u64 {
@@ -67,7 +49,7 @@ fn clock_number(clock: Clock) -> u64 {
 
 fn pending_number(pending: PendingTime) -> u64 {
     let time = pending.time;
-    let bytes = seven(
+    let bytes = [
         time.month,
         time.day,
         time.hour,
@@ -75,15 +57,13 @@ fn pending_number(pending: PendingTime) -> u64 {
         time.second,
         pending.weekday,
         0,
-    );
-    bytes ^ time.year as u64
+    ];
+    seven(bytes) ^ u64::from(time.year)
 }
 
 fn registers_number(registers: Registers) -> u64 {
-    let alarms = registers.alarms;
-    let quarters = registers.temperature_quarters;
-    let reported = flag(registers.int_sqw_reported);
-    let small = seven(
+    let reported = u8::from(registers.int_sqw_reported);
+    let bytes = [
         registers.control,
         registers.status,
         registers.aging,
@@ -91,55 +71,34 @@ fn registers_number(registers: Registers) -> u64 {
         0,
         0,
         0,
-    );
-    small ^ seven_bytes(alarms) ^ registers.conversion_end ^ quarters_number(quarters)
-}
-
-// A temperature plus 32,768, which is not negative.
-fn quarters_number(quarters: i16) -> u64 {
-    (quarters as i64 + 32_768) as u64
+    ];
+    seven(bytes)
+        ^ seven(registers.alarms)
+        ^ registers.conversion_end.unwrap_or(0)
+        ^ u64::from(registers.temperature_quarters.abs_diff(i16::MIN))
 }
 
 // The number of the records of a store.
 fn store_number(records: [I2cDiagnostic; 256]) -> u64 {
     let mut number = 0;
-    let mut i = 0;
-    while i < MAX_DIAGNOSTICS {
-        let diagnostic = records[i];
-        number = number ^ record_number(diagnostic);
-        i += 1;
+    for record in &records {
+        number ^= record.at ^ kind_number(record.kind);
     }
     number
-}
-
-fn record_number(diagnostic: I2cDiagnostic) -> u64 {
-    let kind = diagnostic.kind;
-    diagnostic.at ^ kind_number(kind)
 }
 
 // A kind's place among the four, then its bytes.
 fn kind_number(kind: I2cDiagnosticKind) -> u64 {
     match kind {
-        I2cDiagnosticKind::NotModelled { value } => seven(0, value, 0, 0, 0, 0, 0),
-        I2cDiagnosticKind::ReadOnly { register } => seven(1, register, 0, 0, 0, 0, 0),
-        I2cDiagnosticKind::NoSuchRegister { register } => seven(2, register, 0, 0, 0, 0, 0),
-        I2cDiagnosticKind::Undefined { register, value } => seven(3, register, value, 0, 0, 0, 0),
+        I2cDiagnosticKind::NotModelled { value } => seven([0, value, 0, 0, 0, 0, 0]),
+        I2cDiagnosticKind::ReadOnly { register } => seven([1, register, 0, 0, 0, 0, 0]),
+        I2cDiagnosticKind::NoSuchRegister { register } => seven([2, register, 0, 0, 0, 0, 0]),
+        I2cDiagnosticKind::Undefined { register, value } => seven([3, register, value, 0, 0, 0, 0]),
     }
 }
 
-fn flag(set: bool) -> u8 {
-    if set { 1 } else { 0 }
-}
-
-fn seven_bytes(bytes: [u8; 7]) -> u64 {
-    seven(
-        bytes[0], bytes[1], bytes[2], bytes[3], bytes[4], bytes[5], bytes[6],
-    )
-}
-
 // The number of seven bytes, lowest first.
-fn seven(a: u8, b: u8, c: u8, d: u8, e: u8, f: u8, g: u8) -> u64 {
-    let low = a as u64 + 256 * (b as u64 + 256 * (c as u64 + 256 * d as u64));
-    let high = e as u64 + 256 * (f as u64 + 256 * g as u64);
-    low + 4_294_967_296 * high
+fn seven(bytes: [u8; 7]) -> u64 {
+    let [a, b, c, d, e, f, g] = bytes;
+    u64::from_le_bytes([a, b, c, d, e, f, g, 0])
 }

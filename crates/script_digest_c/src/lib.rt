@@ -4,7 +4,7 @@
 
 ghost use Rattle.std.specs.Prelude.{◌≡◌, length};
 ghost use Rattle.refusals.specs.Numbered.{unless};
-ghost use Rattle.script.specs.Records.{records_in};
+ghost use Rattle.script_check.specs.Records.{records_in};
 ghost use Rattle.script.specs.Runs.{checked_run, answers_to, clockrun_held};
 
 // Runs a script as `clock_script_run` does. The number is for tools/bench alone, which only needs every field of the chip

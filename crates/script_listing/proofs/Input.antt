@@ -10,7 +10,7 @@ use lib.ListN.{length, take}
 use lib.Seq.{take_all, take-length, length-take-le}
 use borrow.Author.Tests.{lt-ltb, leb-true, leb-false}
 use Rattle.refusals.specs.Numbered.{Numbered, refused}
-use Rattle.script.specs.Records.{checked_length, checked_script}
+use Rattle.script_check.specs.Records.{checked_length, checked_script}
 use Rattle.script_listing.specs.Listing.{listing_by, listing_of, Printed, ListedInput}
 
 too_long : (s : List ℕ) → 32768 < length s → checked_script s ≡ refused 14 []

@@ -5,23 +5,21 @@ use mathlib.Core.List.{List, [], ◌∷◌}
 use mathlib.Core.Path.{◌≡◌, refl, sym, ap, ap₂, ◌∙◌, subst}
 use native.Mathlib.Omega.{arith}
 use lib.Dec.{eqb}
+use lib.IntN.{ℤ}
 use lib.ListN.{length, take, replicate}
 use lib.Seq.{length-take-le}
 use borrow.Author.Tests.{eq-eqb}
-use Rattle.std.specs.Prelude.{if◌then◌else◌, option_to_list}
-use Rattle.std.specs.Bool.{then_some}
+use Rattle.std.specs.Prelude.{if◌then◌else◌, option_to_list, Result}
 use Rattle.diagnostics.specs.declared.I2cDiagnostic.{I2cDiagnostic}
-use Rattle.refusals.specs.Numbered.{Numbered, accepted, refused, and_then}
+use Rattle.refusals.specs.Numbered.{Numbered, accepted, refused, and_then, Row, refused_by, answered}
 use Rattle.refusals.proofs.Checks.{accepted_leaves}
 use Rattle.ds3231.specs.declared.Ds3231.{Ds3231}
 use Rattle.listing.specs.Appended.{Appended}
 use Rattle.listing.specs.Text.{refused_line}
-use Rattle.script.specs.ByValue.{refusal_of}
-use Rattle.script.specs.Records.{records_in, checked_length, checked_from, checked_script}
-use Rattle.script.specs.Runs.{held_at, answers_to, clockrun_held, run_numbered, checked_run, run_verdict, Ran}
-use Rattle.script.specs.declared.numbers.Refusal.{Refusal}
-use Rattle.script.specs.declared.runs.RunAnswer.{RunAnswer}
-use Rattle.script.proofs.Laws.{accepted_length, accepted_legal}
+use Rattle.script_check.specs.Records.{records_in, checked_length, checked_from, checked_script, record_named}
+use Rattle.script.specs.Runs.{held_at, answers_to, clockrun_held, run_row, checked_run, run_verdict, Ran}
+use Rattle.script.specs.declared.errors.RunError.{RunError}
+use Rattle.script_check.proofs.Laws.{accepted_length, accepted_legal}
 use Rattle.script.proofs.RunVerdicts.{power_on_verdict}
 use Rattle.script_listing.specs.Listing.{listing_by, listing_of}
 
@@ -43,8 +41,8 @@ verdict_is s room l = power_on_verdict s room ∙ by (checked_length (length s))
     by (refused n vs) e = refl
 
 -- what the run answers, and what it leaves where it goes through
-module _ {s a : List ℕ} {r : RunAnswer} {c : Ds3231} {st : List I2cDiagnostic} {a' : List ℕ} (l : length a ≡ min (records_in s) 2048) (t : Ran clockrun_held s a r c st a') where
-  pub answers_check : run_numbered r ≡ checked_script s
+module _ {s a : List ℕ} {r : Result (Unit {0}) RunError} {c : Ds3231} {st : List I2cDiagnostic} {a' : List ℕ} (l : length a ≡ min (records_in s) 2048) (t : Ran clockrun_held s a r c st a') where
+  pub answers_check : answered run_row r ≡ checked_script s
   answers_check = t.answers ∙ verdict_is s (length a) l
 
   module _ (g : checked_script s ≡ accepted tt) where
@@ -58,12 +56,11 @@ module _ {s a : List ℕ} {r : RunAnswer} {c : Ds3231} {st : List I2cDiagnostic}
     leaves_bytes = t.bytes ∙ sym (accepted_leaves _ tt _ _ goes)
 
 -- the listing of a script that is refused is the refusal's line
-pub refused_as : (s : List ℕ) {out out' : List ℕ} {next : ℕ} (v : Numbered (Unit {0})) (r : Refusal) → r ≡ refusal_of v → (v ≡ accepted tt → ⊥) → v ≡ checked_script s
-    → Appended (refused_line r.number (option_to_list (then_some r.has_record r.«record»))) out 0 out' next → Appended (listing_of s) out 0 out' next
-refused_as s {out} {out'} {next} v r e f q a =
-    subst (λ (t : List ℕ). Appended t out 0 out' next) (ap (λ (x : Refusal). refused_line x.number (option_to_list (then_some x.has_record x.«record»))) e ∙ by v f ∙ ap (λ (w : Numbered (Unit {0})). listing_by w s) q) a
+pub refused_as : (s : List ℕ) {out out' : List ℕ} {next : ℕ} (r : Row) → refused_by r ≡ checked_script s
+    → Appended (refused_line r.number (option_to_list (record_named r.values))) out 0 out' next → Appended (listing_of s) out 0 out' next
+refused_as s {out} {out'} {next} r q a =
+    subst (λ (t : List ℕ). Appended t out 0 out' next) (by r.values ∙ ap (λ (w : Numbered (Unit {0})). listing_by w s) q) a
   where
-    by : (w : Numbered (Unit {0})) → (w ≡ accepted tt → ⊥) → refused_line (refusal_of w).number (option_to_list (then_some (refusal_of w).has_record (refusal_of w).«record»)) ≡ listing_by w s
-    by (accepted u) n = absurd (n refl)
-    by (refused n []) m = refl
-    by (refused n (i ∷ is)) m = refl
+    by : (vs : List ℤ) → refused_line r.number (option_to_list (record_named vs)) ≡ listing_by (refused r.number vs) s
+    by [] = refl
+    by (i ∷ is) = refl

@@ -11,7 +11,7 @@ use Rattle.listing.specs.Appended.{appended, Appended, AppendedIn}
 use Rattle.listing.specs.Text.{header, diagnostic_lines, dropped_line}
 use Rattle.listing.proofs.Appending.{also, fitting}
 use Rattle.listing.proofs.Lines.{header_length, first_lines_length}
-use Rattle.script.specs.Records.{records_in}
+use Rattle.script_check.specs.Records.{records_in}
 use Rattle.script.specs.Runs.{held_at, clockrun_held}
 use Rattle.script.specs.declared.runs.RunOutcome.{RunOutcome}
 use Rattle.script_listing.specs.Listing.{event_lines, ran_listing, listing_of, Printed}

@@ -3,7 +3,7 @@ use Rattle.computed.specs.Prelude.{ℕ, zero, suc, List, [], take, drop, length,
 use Rattle.std.specs.Prelude.{◌∷◌, ◌++◌, ◌≡◌, if◌then◌else◌}
 use Rattle.refusals.specs.Numbered.{Numbered, accepted, refused}
 use Rattle.listing.specs.Text.{header, event_line, diagnostic_lines, dropped_line, refused_line}
-use Rattle.script.specs.Records.{instant_of, kind_of, value_of, records_in, checked_script}
+use Rattle.script_check.specs.Records.{instant_of, kind_of, value_of, records_in, checked_script}
 use Rattle.script.specs.Runs.{Held, held_at, answer_at, clockrun_held}
 
 -- 'Script answers': a line an event, of the first n; the answer of record i is the one on the chip after the first i records

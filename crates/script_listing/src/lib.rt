@@ -4,15 +4,14 @@
 
 ghost use Rattle.std.specs.Prelude.{◌≡◌, ◌+◌, ◌*◌, ◌/◌, ◌≤◌, min, length, take};
 ghost use Rattle.listing.specs.Appended.{Appended};
-ghost use Rattle.script.specs.Records.{records_in};
+ghost use Rattle.script_check.specs.Records.{records_in};
 ghost use Rattle.script.specs.Runs.{held_at, answers_to, clockrun_held};
 ghost use Rattle.script_listing.specs.Listing.{event_lines, ran_listing, listing_of, Printed, ListedInput};
 
 use diagnostics::MAX_DIAGNOSTICS;
 use listing::{LINE, diagnostic_lines, dropped_line, event_line, header, refused_line};
-use script::{
-    MAX_RECORDS, RECORD, RunAnswer, RunOutcome, record_at, run_from_power_on, run_refusal,
-};
+use refusals::Refusal;
+use script::{MAX_RECORDS, RECORD, RunOutcome, record_at, run_from_power_on};
 
 // Room for every line of a script: the header, the events, the diagnostics and the dropped count.
 pub const LISTING: usize = LINE * (1 + MAX_RECORDS + MAX_DIAGNOSTICS + 1);
@@ -33,7 +32,8 @@ pub fn listing(script: &[u8], out: &mut [u8]) -> usize
     listed(script, &mut space[..n], out)
 }
 
-// The listing of an input that was read into `input`, its first `n` bytes: all of the input, or as much as `input` holds.
+// The listing of an input that was read into `input`, its first `n` bytes: all of the input, or as much as `input` holds. The
+// array's length says how much may be held; a slice of what was read would not.
 pub fn input_listing(input: [u8; INPUT], n: usize, out: &mut [u8]) -> usize
     ensures { ListedInput input n out.old out.new result }
 {
@@ -45,10 +45,7 @@ pub fn input_listing(input: [u8; INPUT], n: usize, out: &mut [u8]) -> usize
 fn answers_of(len: usize) -> usize
     ensures { result ≡ min (len / 16) 2048 }
 {
-    if len < RECORD * MAX_RECORDS {
-        return len / RECORD;
-    }
-    MAX_RECORDS
+    (len / RECORD).min(MAX_RECORDS)
 }
 
 // Runs the script, with a byte lent for each answer, and goes by what the run answers.
@@ -56,14 +53,11 @@ fn listed(script: &[u8], answers: &mut [u8], out: &mut [u8]) -> usize
     requires { (length answers.old ≡ min (records_in script.now) 2048) × (110688 ≤ length out.old) }
     ensures { Appended (listing_of script.now) out.old 0 out.new result }
 {
-    let end = run_from_power_on(script, answers);
-    let answer = end.answer;
-    match answer {
-        RunAnswer::Done => ran(script, answers, end, out),
-        _ => {
-            let refusal = run_refusal(answer);
-            let record = refusal.has_record.then_some(refusal.record as u64);
-            refused_line(out, 0, refusal.number, record)
+    match run_from_power_on(script, answers) {
+        Ok(end) => ran(script, answers, end, out),
+        Err(error) => {
+            let record = error.record().map(|record| record as u64);
+            refused_line(out, 0, error.number(), record)
         }
     }
 }
@@ -74,14 +68,11 @@ fn ran(script: &[u8], answers: &[u8], end: RunOutcome, out: &mut [u8]) -> usize
     requires script_bound { (records_in script.now ≤ 2048) × (110688 ≤ length out.old) }
     ensures { Appended (ran_listing script.now) out.old 0 out.new result }
 {
-    let chip = end.chip;
-    let records = end.records;
-    let waiting = chip.diagnostics.waiting;
-    let dropped = chip.diagnostics.dropped;
+    let counts = end.chip.diagnostics;
     let next = header(out, 0);
     let next = event_lines(script, answers, out, next);
-    let next = diagnostic_lines(out, next, records, waiting);
-    dropped_line(out, next, dropped)
+    let next = diagnostic_lines(out, next, end.records, counts.waiting);
+    dropped_line(out, next, counts.dropped)
 }
 
 // The lines of the events.
@@ -89,14 +80,10 @@ fn event_lines(script: &[u8], answers: &[u8], out: &mut [u8], at: usize) -> usiz
     requires { (answers.now ≡ answers_to script.now clockrun_held (records_in script.now)) × (at + 48 * records_in script.now ≤ length out.old) }
     ensures { Appended (event_lines script.now (records_in script.now)) out.old at out.new result }
 {
-    let n = answers.len();
-    let mut i = 0;
     let mut next = at;
-    while i < n {
+    for (i, answer) in answers.iter().enumerate() {
         let event = record_at(script, i);
-        let answer = answers[i];
-        next = event_line(out, next, event.at, event.kind, event.value, answer);
-        i += 1;
+        next = event_line(out, next, event.at, event.kind, event.value, *answer);
     }
     next
 }
@@ -107,8 +94,5 @@ pub fn within(n: usize, bytes: &[u8]) -> usize
     ensures in_bounds { result ≤ length bytes.now }
     ensures prefix_len { result ≡ length (take result bytes.now) }
 {
-    if n <= bytes.len() {
-        return n;
-    }
-    bytes.len()
+    n.min(bytes.len())
 }

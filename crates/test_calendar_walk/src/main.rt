@@ -7,9 +7,7 @@
 // checksum by (sum * 31 + value) % 4294967291, from 0 at each century's start.
 #![tactic(auto)]
 
-use calendar::{
-    DateTime, FromSecondsResult, SECONDS_PER_DAY, SecondsResult, WeekdayResult, days_in_month,
-};
+use calendar::{DateTime, SECONDS_PER_DAY, days_in_month};
 use std::io;
 
 const MODULUS: u64 = 4_294_967_291;
@@ -22,45 +20,36 @@ fn folded(sum: u64, value: u64) -> u64 {
 }
 
 fn weekday_of(t: DateTime) -> u64 {
-    match t.weekday() {
-        WeekdayResult::Ok(weekday) => weekday as u64,
-        WeekdayResult::Err(_) => REFUSED,
-    }
+    t.weekday().map_or(REFUSED, u64::from)
 }
 
 fn seconds_of(t: DateTime) -> u64 {
-    match t.seconds_since_2000() {
-        SecondsResult::Ok(seconds) => seconds,
-        SecondsResult::Err(_) => REFUSED,
-    }
-}
-
-fn folded_date(sum: u64, t: DateTime) -> u64 {
-    let year = folded(sum, t.year as u64);
-    let month = folded(year, t.month as u64);
-    folded(month, t.day as u64)
-}
-
-fn folded_time(sum: u64, t: DateTime) -> u64 {
-    let hour = folded(sum, t.hour as u64);
-    let minute = folded(hour, t.minute as u64);
-    folded(minute, t.second as u64)
+    t.seconds_since_2000().unwrap_or(REFUSED)
 }
 
 fn folded_day(sum: u64, seconds: u64) -> u64 {
     match DateTime::from_seconds_since_2000(seconds) {
-        FromSecondsResult::Ok(t) => {
-            let fields = folded_time(folded_date(sum, t), t);
-            folded(folded(fields, weekday_of(t)), seconds_of(t))
+        Some(t) => {
+            let values = [
+                u64::from(t.year),
+                u64::from(t.month),
+                u64::from(t.day),
+                u64::from(t.hour),
+                u64::from(t.minute),
+                u64::from(t.second),
+                weekday_of(t),
+                seconds_of(t),
+            ];
+            values.iter().fold(sum, |sum, value| folded(sum, *value))
         }
-        FromSecondsResult::OutOfRange => folded(sum, REFUSED),
+        None => folded(sum, REFUSED),
     }
 }
 
 fn days_checksum(first_day: u32, last_day: u32) -> u64 {
     let mut sum = 0;
     for day in first_day..=last_day {
-        sum = folded_day(sum, day as u64 * SECONDS_PER_DAY + 45_296);
+        sum = folded_day(sum, u64::from(day) * SECONDS_PER_DAY + 45_296);
     }
     sum
 }
@@ -76,21 +65,21 @@ fn months_checksum(first_year: u16, last_year: u16) -> u64 {
 fn folded_year(sum: u64, year: u16) -> u64 {
     let mut months = sum;
     for month in 1..=12u8 {
-        months = folded(months, days_in_month(year, month) as u64);
+        months = folded(months, u64::from(days_in_month(year, month)));
     }
     months
 }
 
 fn print_day(rt: &impl Print, day: u32) -> io::Result<()> {
-    match DateTime::from_seconds_since_2000(day as u64 * SECONDS_PER_DAY) {
-        FromSecondsResult::Ok(t) => {
+    match DateTime::from_seconds_since_2000(u64::from(day) * SECONDS_PER_DAY) {
+        Some(t) => {
             let year = t.year;
             let month = t.month;
             let day = t.day;
             let weekday = weekday_of(t);
             print!(rt; "{year}-{month}-{day} weekday {weekday}")
         }
-        FromSecondsResult::OutOfRange => print!(rt; "refused"),
+        None => print!(rt; "refused"),
     }
 }
 

@@ -24,12 +24,7 @@ fn length<R: Read>(reader: &mut R) -> usize {
     if read_full(reader, &mut header) < HEADER {
         return 0;
     }
-    number4(header[0], header[1], header[2], header[3])
-}
-
-// The number of four bytes, lowest first.
-fn number4(a: u8, b: u8, c: u8, d: u8) -> usize {
-    a as usize + 256 * (b as usize + 256 * (c as usize + 256 * d as usize))
+    u32::from_le_bytes(header) as usize
 }
 
 // A number of bytes of `block`: `n`, or 0 where `block` has fewer.

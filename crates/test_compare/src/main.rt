@@ -21,12 +21,11 @@ fn main(rt: HostRuntime) {
 
 // Prints the answers of a block's lists of calls, or the listings of its scripts.
 fn answer(rt: &impl Print, block: &[u8]) {
-    if block.len() == 0 {
-        return;
-    }
-    if block[0] == SCRIPTS {
-        test_replaying_scripts::replay(rt, &block[1..]);
-    } else {
-        test_replaying::replay(rt, &block[1..]);
+    if let Some((kind, lists)) = block.split_first() {
+        if *kind == SCRIPTS {
+            test_replaying_scripts::replay(rt, lists);
+        } else {
+            test_replaying::replay(rt, lists);
+        }
     }
 }

@@ -1,5 +1,6 @@
 // Re-runs the recorded calls of the chip and prints the answers.
 // The file `stdin` is vectors/calls.in, and `stdout` has the answers of the Rust, vectors/calls.out.
+// A crate for each input: the gate gives a program one.
 #![tactic(auto)]
 
 use streams::read_full;

@@ -1,5 +1,6 @@
 // Re-runs the recorded scripts and prints the listing of each.
 // The file `stdin` is vectors/scripts.in, and `stdout` has the answers of the Rust, vectors/scripts.out.
+// A crate for each input: the gate gives a program one.
 #![tactic(auto)]
 
 use streams::read_full;

@@ -1,5 +1,6 @@
 // Re-runs the recorded scripts that read status after an alarm byte was written and prints the listing of each.
 // The file `stdin` is vectors/scripts_alarm.in, and `stdout` has the answers of the Rust, vectors/scripts_alarm.out.
+// A crate for each input: the gate gives a program one.
 #![tactic(auto)]
 
 use streams::read_full;

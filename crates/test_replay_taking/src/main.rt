@@ -1,5 +1,6 @@
 // Re-runs the recorded lists of calls that take diagnostics and prints the answers.
 // The file `stdin` is vectors/taking.in, and `stdout` has the answers of the Rust, vectors/taking.out.
+// A crate for each input: the gate gives a program one.
 #![tactic(auto)]
 
 use streams::read_full;

@@ -1,84 +1,53 @@
 // The calls of the chip, on a chip and a store of 256 records.
-use crate::{record, text};
-use bus_by_value::{Session, Values, address_on, read_on, stop_on, write_on};
-use diagnostics::I2cDiagnostic;
+use crate::record::Record;
+use crate::{Whole, text};
+use bus_by_value::Session;
+use diagnostics::LentError;
 use ds3231::{Ds3231, Ds3231Config, Reply};
-use ds3231_bus::BusAnswer;
-use ds3231_chip::{DroppedResult, NowResult, PowerOnAnswer, RegisterResult};
+use ds3231_chip::{Ds3231ConfigError, no_chip};
+use refusals::Refusal;
 
-pub(crate) fn on(rt: &impl Print, record: [u8; 16]) -> Session {
-    let start = record::time(record);
+// A power-on; where it is refused, a chip that is not sound.
+pub(crate) fn on(rt: &impl Print, record: Record) -> Whole {
     let config = Ds3231Config {
-        start,
-        oscillator_stopped: record::stopped(record),
-        temperature_quarters: record::quarters(record),
+        start: record.time(),
+        oscillator_stopped: record.stopped(),
+        temperature_quarters: record.quarters(),
     };
-    let powered = ds3231_chip::power_on(config);
-    let answer = powered.answer;
-    on_answer(rt, answer);
-    with_store(powered.chip)
-}
-
-// The chip of the default power-on, with a store.
-pub(crate) fn begun() -> Session {
-    let powered = ds3231_chip::power_on(Ds3231Config::default());
-    with_store(powered.chip)
-}
-
-fn with_store(chip: Ds3231) -> Session {
-    let unwritten = I2cDiagnostic::unwritten();
-    let store = [unwritten; 256];
-    Session {
-        chip,
-        store,
-        answer: BusAnswer::Replied(Reply::Done),
+    match ds3231_chip::power_on(config) {
+        Ok(chip) => {
+            text::ok(rt);
+            Session::new(chip)
+        }
+        Err(error) => {
+            not_on(rt, error);
+            Session::new(no_chip())
+        }
     }
 }
 
-fn on_answer(rt: &impl Print, answer: PowerOnAnswer) {
-    match answer {
-        PowerOnAnswer::On => text::ok(rt),
-        PowerOnAnswer::Start(error) => text::error(rt, error),
-        PowerOnAnswer::Temperature(quarters) => text::quarters_refused(rt, quarters),
+fn not_on(rt: &impl Print, error: Ds3231ConfigError) {
+    match error {
+        Ds3231ConfigError::Start(error) => text::error(rt, error),
+        Ds3231ConfigError::Temperature(quarters) => text::quarters_refused(rt, quarters),
     }
 }
 
-pub(crate) fn event(rt: &impl Print, record: [u8; 16], before: Session) -> Session {
-    let after = called(record, before);
-    let answer = after.answer;
-    event_answer(rt, answer);
-    after
-}
-
-fn called(record: [u8; 16], session: Session) -> Session {
-    let byte = record::byte(record);
-    let kind = record::kind(record);
-    let values = Values {
-        value: byte,
-        bit: bit(record, kind),
-        at: record::number8(record),
-    };
-    match kind {
-        0 => address_on(session, values),
-        1 => write_on(session, values),
-        2 => read_on(session, values),
-        _ => stop_on(session, values),
+pub(crate) fn event(rt: &impl Print, record: Record, session: &mut Whole) {
+    match called(record, session) {
+        Ok(reply) => event_reply(rt, reply),
+        Err(error) => text::refused(rt, error.number()),
     }
 }
 
-// The read bit of a START, the acknowledge of a READ.
-fn bit(record: [u8; 16], kind: u8) -> bool {
-    if kind == 0 {
-        return record::read_bit(record);
-    }
-    record::byte(record) == 1
-}
-
-fn event_answer(rt: &impl Print, answer: BusAnswer) {
-    match answer {
-        BusAnswer::Replied(reply) => event_reply(rt, reply),
-        BusAnswer::NotSound => text::not_sound(rt),
-        BusAnswer::StoreLength => text::refused(rt, 11),
+fn called(record: Record, session: &mut Whole) -> Result<Reply, LentError> {
+    let byte = record.byte();
+    let at = record.number();
+    match record.kind() {
+        0 => session.address(byte, record.read_bit(), at),
+        1 => session.write(byte, at),
+        2 => session.read(byte == 1, at),
+        _ => session.stop(at),
     }
 }
 
@@ -90,33 +59,31 @@ fn event_reply(rt: &impl Print, reply: Reply) {
     }
 }
 
-pub(crate) fn asked(rt: &impl Print, record: [u8; 16], chip: Ds3231) {
-    match record::kind(record) {
+pub(crate) fn asked(rt: &impl Print, record: Record, chip: Ds3231) {
+    match record.kind() {
         5 => register(rt, record, chip),
         6 => now(rt, record, chip),
         _ => dropped(rt, chip),
     }
 }
 
-fn register(rt: &impl Print, record: [u8; 16], chip: Ds3231) {
-    let at = record::number8(record);
-    match ds3231_chip::register(chip, record::byte(record), at) {
-        RegisterResult::Ok(byte) => text::hex(rt, byte),
-        RegisterResult::NoSuchRegister => text::refused(rt, 9),
-        RegisterResult::NotSound => text::not_sound(rt),
+fn register(rt: &impl Print, record: Record, chip: Ds3231) {
+    match ds3231_chip::register(chip, record.byte(), record.number()) {
+        Ok(byte) => text::hex(rt, byte),
+        Err(error) => text::refused(rt, error.number()),
     }
 }
 
-fn now(rt: &impl Print, record: [u8; 16], chip: Ds3231) {
-    match ds3231_chip::now(chip, record::number8(record)) {
-        NowResult::Ok(time) => text::time(rt, time),
-        NowResult::NotSound => text::not_sound(rt),
+fn now(rt: &impl Print, record: Record, chip: Ds3231) {
+    match ds3231_chip::now(chip, record.number()) {
+        Ok(time) => text::time(rt, time),
+        Err(error) => text::refused(rt, error.number()),
     }
 }
 
 fn dropped(rt: &impl Print, chip: Ds3231) {
     match ds3231_chip::dropped_diagnostics(chip) {
-        DroppedResult::Ok(count) => text::decimal(rt, count),
-        DroppedResult::NotSound => text::not_sound(rt),
+        Ok(count) => text::decimal(rt, count),
+        Err(error) => text::refused(rt, error.number()),
     }
 }

@@ -6,6 +6,7 @@
 ghost use Rattle.std.specs.Prelude.{◌≡◌, ◌+◌, ◌<◌, ◌≤◌, length};
 
 use bus_by_value::Session;
+use record::{RECORD, Record};
 
 mod chip;
 mod dates;
@@ -15,19 +16,20 @@ mod text;
 
 const HEADER: usize = 4;
 
-const RECORD: usize = 16;
+// A chip with its store of 256 records.
+type Whole = Session<256>;
 
 // A place in the input, how many records of the list under way are left, how many lists were begun, and the chip with
 // its store.
 #[derive(Clone, Copy)]
 struct Run {
     at: usize,
-    left: u64,
+    left: u32,
     lists: u64,
-    session: Session,
+    session: Whole,
 }
 
-// Runs the lists of `input` to its end, and answers where that is.
+// Runs the lists of `input` to its end, and answers where that is. A turn moves by a header or by a record.
 pub fn replay(rt: &impl Print, input: &[u8]) -> usize
     ensures { result ≡ length input.now }
 {
@@ -46,7 +48,7 @@ fn first() -> Run
         at: 0,
         left: 0,
         lists: 0,
-        session: chip::begun(),
+        session: Session::new(ds3231_chip::no_chip()),
     }
 }
 
@@ -61,82 +63,58 @@ fn turn(rt: &impl Print, input: &[u8], run: Run) -> Run
         if rest < HEADER {
             return moved(input.len(), run);
         }
-        let records = record::number4(input[at], input[at + 1], input[at + 2], input[at + 3]);
+        let records = u32::from_le_bytes([input[at], input[at + 1], input[at + 2], input[at + 3]]);
         return begun(rt, at + HEADER, records, run);
     }
     if rest < RECORD {
         return moved(input.len(), run);
     }
-    let record = record_at(input, at);
-    answered(rt, at + RECORD, record, run)
-}
-
-// The record at `at`.
-fn record_at(input: &[u8], at: usize) -> [u8; 16]
-    requires { at + 16 ≤ length input.now }
-{
-    let mut record = [0; 16];
-    for i in 0..16usize {
-        record[i] = input[at + i];
-    }
-    record
+    answered(rt, at + RECORD, Record::at(input, at), run)
 }
 
 // At another place, with nothing else changed.
 fn moved(next: usize, run: Run) -> Run
     ensures { result.at ≡ next }
 {
-    let session = run.session;
-    Run {
-        at: next,
-        left: run.left,
-        lists: run.lists,
-        session,
-    }
+    Run { at: next, ..run }
 }
 
 // After the header of a list of `records` records.
-fn begun(rt: &impl Print, next: usize, records: u64, run: Run) -> Run
+fn begun(rt: &impl Print, next: usize, records: u32, run: Run) -> Run
     ensures { result.at ≡ next }
 {
     text::list(rt, run.lists);
-    let session = run.session;
     Run {
         at: next,
         left: records,
-        lists: std::num::wrapping_add_u64(run.lists, 1),
-        session,
+        lists: run.lists.wrapping_add(1),
+        ..run
     }
 }
 
 // After a record.
-fn answered(rt: &impl Print, next: usize, record: [u8; 16], run: Run) -> Run
+fn answered(rt: &impl Print, next: usize, record: Record, run: Run) -> Run
     ensures { result.at ≡ next }
 {
-    let before = run.session;
-    let session = answer(rt, record, before);
+    let session = answer(rt, record, run.session);
     text::line_end(rt);
     Run {
         at: next,
-        left: std::num::wrapping_sub_u64(run.left, 1),
-        lists: run.lists,
+        left: run.left.wrapping_sub(1),
         session,
+        ..run
     }
 }
 
 // Answers a record's call, by its kind.
-fn answer(rt: &impl Print, record: [u8; 16], before: Session) -> Session {
-    match record::kind(record) {
-        0..=3 => chip::event(rt, record, before),
-        4 => chip::on(rt, record),
-        5..=7 => {
-            chip::asked(rt, record, before.chip);
-            before
-        }
-        8 => taking::taken(rt, before),
-        _ => {
-            dates::asked(rt, record);
-            before
-        }
+fn answer(rt: &impl Print, record: Record, before: Whole) -> Whole {
+    let mut session = before;
+    match record.kind() {
+        0..=3 => chip::event(rt, record, &mut session),
+        4 => session = chip::on(rt, record),
+        5..=7 => chip::asked(rt, record, session.chip),
+        8 => taking::taken(rt, &mut session),
+        _ => dates::asked(rt, record),
     }
+    session
 }

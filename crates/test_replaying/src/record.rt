@@ -1,66 +1,63 @@
 // A record of sixteen bytes, and what stands in it. Numbers have the lowest byte first.
+ghost use Rattle.std.specs.Prelude.{◌≡◌, ◌+◌, ◌≤◌, length};
+
 use calendar::DateTime;
 
-pub(crate) fn kind(record: [u8; 16]) -> u8 {
-    record[8]
+// The bytes of a record.
+pub(crate) const RECORD: usize = 16;
+
+#[derive(Clone, Copy)]
+pub(crate) struct Record {
+    bytes: [u8; RECORD],
 }
 
-// A START's address, a WRITE's byte, a READ's acknowledge, a register's number.
-pub(crate) fn byte(record: [u8; 16]) -> u8 {
-    record[9]
-}
-
-pub(crate) fn read_bit(record: [u8; 16]) -> bool {
-    record[10] == 1
-}
-
-// Whether a power-on's oscillator had stopped.
-pub(crate) fn stopped(record: [u8; 16]) -> bool {
-    record[7] == 1
-}
-
-// The quarters of a degree of a power-on, two's complement.
-pub(crate) fn quarters(record: [u8; 16]) -> i16 {
-    signed(number2(record[10], record[11]))
-}
-
-// The number that sixteen bits are in two's complement.
-fn signed(number: u16) -> i16 {
-    if number < 32_768 {
-        return number as i16;
+impl Record {
+    // The record at `at`.
+    pub(crate) fn at(input: &[u8], at: usize) -> Record
+        requires { at + 16 ≤ length input.now }
+    {
+        let mut bytes = [0; RECORD];
+        bytes.copy_from_slice(&input[at..at + RECORD]);
+        Record { bytes }
     }
-    !((65_535 - number) as i16)
-}
 
-fn number2(a: u8, b: u8) -> u16 {
-    b as u16 * 256 + a as u16
-}
+    pub(crate) fn kind(self) -> u8 {
+        self.bytes[8]
+    }
 
-pub(crate) fn number4(a: u8, b: u8, c: u8, d: u8) -> u64 {
-    joined(joined(joined(joined(0, d), c), b), a)
-}
+    // A START's address, a WRITE's byte, a READ's acknowledge, a register's number.
+    pub(crate) fn byte(self) -> u8 {
+        self.bytes[9]
+    }
 
-// The instant or the seconds.
-pub(crate) fn number8(record: [u8; 16]) -> u64 {
-    let high = number4(record[4], record[5], record[6], record[7]);
-    joined(
-        joined(joined(joined(high, record[3]), record[2]), record[1]),
-        record[0],
-    )
-}
+    pub(crate) fn read_bit(self) -> bool {
+        self.bytes[10] == 1
+    }
 
-// A number with one more byte below it, in 64 bits.
-fn joined(number: u64, byte: u8) -> u64 {
-    number % 0x100_0000_0000_0000 * 256 + byte as u64
-}
+    // Whether a power-on's oscillator had stopped.
+    pub(crate) fn stopped(self) -> bool {
+        self.bytes[7] == 1
+    }
 
-pub(crate) fn time(record: [u8; 16]) -> DateTime {
-    DateTime {
-        year: number2(record[0], record[1]),
-        month: record[2],
-        day: record[3],
-        hour: record[4],
-        minute: record[5],
-        second: record[6],
+    // The quarters of a degree of a power-on.
+    pub(crate) fn quarters(self) -> i16 {
+        i16::from_le_bytes([self.bytes[10], self.bytes[11]])
+    }
+
+    // The instant or the seconds.
+    pub(crate) fn number(self) -> u64 {
+        let b = self.bytes;
+        u64::from_le_bytes([b[0], b[1], b[2], b[3], b[4], b[5], b[6], b[7]])
+    }
+
+    pub(crate) fn time(self) -> DateTime {
+        DateTime {
+            year: u16::from_le_bytes([self.bytes[0], self.bytes[1]]),
+            month: self.bytes[2],
+            day: self.bytes[3],
+            hour: self.bytes[4],
+            minute: self.bytes[5],
+            second: self.bytes[6],
+        }
     }
 }

@@ -9,7 +9,7 @@ use script_listing::{LISTING, listing, within};
 // The bytes of a script's length.
 const HEADER: usize = 4;
 
-// Runs the scripts of `input` to its end, and answers where that is.
+// Runs the scripts of `input` to its end, and answers where that is. A turn moves by a script's length, which stands before it.
 pub fn replay(rt: &impl Print, input: &[u8]) -> usize
     ensures { result ≡ length input.now }
 {
@@ -17,7 +17,7 @@ pub fn replay(rt: &impl Print, input: &[u8]) -> usize
     let mut number = 0;
     while at < input.len() {
         at = turn(rt, input, at, number);
-        number = std::num::wrapping_add_u64(number, 1);
+        number = number.wrapping_add(1);
     }
     at
 }
@@ -31,7 +31,8 @@ fn turn(rt: &impl Print, input: &[u8], at: usize, number: u64) -> usize
     if rest < HEADER {
         return input.len();
     }
-    let length = number4(input[at], input[at + 1], input[at + 2], input[at + 3]);
+    let length = u32::from_le_bytes([input[at], input[at + 1], input[at + 2], input[at + 3]]);
+    let length = length as usize;
     let from = at + HEADER;
     if input.len() - from < length {
         return input.len();
@@ -39,11 +40,6 @@ fn turn(rt: &impl Print, input: &[u8], at: usize, number: u64) -> usize
     title(rt, number);
     print(rt, &input[from..from + length]);
     from + length
-}
-
-// The number of four bytes, lowest first.
-fn number4(a: u8, b: u8, c: u8, d: u8) -> usize {
-    a as usize + 256 * (b as usize + 256 * (c as usize + 256 * d as usize))
 }
 
 // `script,0`. What cannot be written is lost.

@@ -38,11 +38,11 @@ long : (y m : ℕ) → m < 256 → key m ≡ false → month_length y m ≡ 31
 unfolding month_length months
 long y m h e = sym (ap (λ (b : Bool). if b then 31 else get_or (months (leap y)) (m - 1) 31) e) ∙ usual-is (leap y) m h
 
-pub returns-then-is_leap : goal.returns-then-is_leap
-returns-then-is_leap c = sym (february _ _ true c.in-2.is (sym c.is_leap.ensures ∙ c.if-is_leap.true))
+pub returns-in-2 : goal.returns-in-2
+returns-in-2 c = sym (february _ _ true c.in-2.is (sym c.is_leap.ensures ∙ c.if-is_leap.true))
 
-pub returns-else-is_leap : goal.returns-else-is_leap
-returns-else-is_leap c = sym (february _ _ false c.in-2.is (sym c.is_leap.ensures ∙ c.if-is_leap.false))
+pub returns-in-2-2 : goal.returns-in-2-2
+returns-in-2-2 c = sym (february _ _ false c.in-2.is (sym c.is_leap.ensures ∙ c.if-is_leap.false))
 
 pub returns-in-4 : goal.returns-in-4
 unfolding months

@@ -1,16 +1,16 @@
 -- `calendar::is_leap` meets its contract, test by test.
-use borrow.Author.Tests.{eq-eqb, ne_eqb}
+use Rattle.std.proofs.Common.{rules}
 use Rattle.gregorian.specs.Calendar.{divides, leap}
 use Rattle.calendar.proofs.is_leap.Goals as goal
 
 pub returns-then-year-ne0 : goal.returns-then-year-ne0
 unfolding leap divides
-returns-then-year-ne0 c = simp (ne_eqb _ _ c.if-year-ne0.true)
+returns-then-year-ne0 c = search rules
 
-pub returns-then-year-ne0-2 : goal.returns-then-year-ne0-2
+pub returns-else-year-ne0 : goal.returns-else-year-ne0
 unfolding leap divides
-returns-then-year-ne0-2 c = simp (eq-eqb _ _ c.if-year-ne0.false, ne_eqb _ _ c.if-year-ne0-2.true)
+returns-else-year-ne0 c = search rules
 
-pub returns : goal.returns
+pub returns-else-year-eq0 : goal.returns-else-year-eq0
 unfolding leap divides
-returns c = simp (eq-eqb _ _ c.if-year-ne0.false, eq-eqb _ _ c.if-year-ne0-2.false)
+returns-else-year-eq0 c = search rules

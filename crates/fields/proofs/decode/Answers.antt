@@ -4,78 +4,75 @@ use mathlib.Core.Path.{◌≡◌, refl, sym, ap, ◌∙◌}
 use Prim.Native.Nat.{ℕ, ◌≤◌, ◌<◌}
 use native.Mathlib.Omega.{arith}
 use lib.Dec.{leb, leb-zero}
-use Rattle.fields.specs.Table.{undefined, sets, in_field, plain_meaning, meaning}
-use Rattle.fields.specs.Answers.{of_digits_within}
-use Rattle.fields.specs.declared.FromBcd.{FromBcd}
-use Rattle.fields.specs.declared.FromBcd.TheVariants.{Some, None}
+use Rattle.fields.specs.Table.{sets, in_field, plain_meaning, meaning}
+use Rattle.std.specs.Prelude.{Option, Some, None, option_map}
+use Rattle.std.proofs.Common.{rules}
+use Rattle.fields.specs.Answers.{field_meaning, decoded_meaning, of_digits_within}
+use Rattle.fields.specs.declared.Field.{Field}
+use Rattle.fields.specs.declared.Field.TheVariants.{Second, Minute, Weekday, Day, Year}
 use Rattle.fields.proofs.Laws.{undefined_past}
 use Rattle.fields.proofs.Digits.{plain_some, plain_none}
 use Rattle.fields.proofs.decode.Goals as goal
 
--- at register k a byte that is two digits, from low to high, and no more: its meaning by what `from_bcd_within` answers
-record Plain (k low high : ℕ) : Type 0 where
-  some_at : (r b n : ℕ) (a : FromBcd) → r ≡ k → a ≡ of_digits_within low high b → a ≡ Some n → sets k n false ≡ meaning r b
-  none-at : (r b : ℕ) (a : FromBcd) → r ≡ k → a ≡ of_digits_within low high b → a ≡ None → undefined ≡ meaning r b
+-- at register k a byte that is two digits, from low to high, and no more: what it means, by the field of its number
+module _ (k low high : ℕ) (f : ℕ → Field) (named : (n : ℕ) → field_meaning (f n) ≡ sets k n false) where
+  plain_at : ((n : ℕ) → (leb low n && leb n high) ≡ in_field k n) → (b : ℕ) (a : Option ℕ) → a ≡ of_digits_within low high b → decoded_meaning (option_map f a) ≡ plain_meaning k b
+  plain_at range b (Some n) e = named n ∙ plain_some k low high range b n e
+  plain_at range b None e = plain_none k low high range b e
 
-plain : (k low high : ℕ) → ((b : ℕ) → plain_meaning k b ≡ meaning k b) → ((n : ℕ) → (leb low n && leb n high) ≡ in_field k n) → Plain k low high
-plain k low high p range =
-    record {
-      some_at = λ r b n a e f g. plain_some k low high range b n (sym g ∙ f) ∙ p b ∙ ap (λ (i : ℕ). meaning i b) (sym e);
-      none-at = λ r b a e f g. plain_none k low high range b (sym g ∙ f) ∙ p b ∙ ap (λ (i : ℕ). meaning i b) (sym e);
-    }
+  abbrev Plain : Type 0
+  Plain = (r b : ℕ) (a : Option ℕ) (m : Option Field) → r ≡ k → a ≡ of_digits_within low high b → m ≡ option_map f a → decoded_meaning m ≡ meaning r b
 
-seconds : Plain 0 0 59
+  plain : ((b : ℕ) → plain_meaning k b ≡ meaning k b) → ((n : ℕ) → (leb low n && leb n high) ≡ in_field k n) → Plain
+  plain p range r b a m e g h = ap decoded_meaning h ∙ plain_at range b a g ∙ p b ∙ ap (λ (i : ℕ). meaning i b) (sym e)
+
+seconds : Plain 0 0 59 Second (λ n. refl)
 unfolding meaning in_field
-seconds = plain 0 0 59 (λ b. refl) (λ n. rw (leb-zero n))
+seconds = plain 0 0 59 Second (λ n. refl) (λ b. refl) (λ n. rw (leb-zero n))
 
-minutes : Plain 1 0 59
+minutes : Plain 1 0 59 Minute (λ n. refl)
 unfolding meaning in_field
-minutes = plain 1 0 59 (λ b. refl) (λ n. rw (leb-zero n))
+minutes = plain 1 0 59 Minute (λ n. refl) (λ b. refl) (λ n. rw (leb-zero n))
 
-weekdays : Plain 3 1 7
+weekdays : Plain 3 1 7 Weekday (λ n. refl)
 unfolding meaning in_field
-weekdays = plain 3 1 7 (λ b. refl) (λ n. refl)
+weekdays = plain 3 1 7 Weekday (λ n. refl) (λ b. refl) (λ n. refl)
 
-days : Plain 4 1 31
+days : Plain 4 1 31 Day (λ n. refl)
 unfolding meaning in_field
-days = plain 4 1 31 (λ b. refl) (λ n. refl)
+days = plain 4 1 31 Day (λ n. refl) (λ b. refl) (λ n. refl)
 
-years : Plain 6 0 99
+years : Plain 6 0 99 Year (λ n. refl)
 unfolding meaning in_field
-years = plain 6 0 99 (λ b. refl) (λ n. rw (leb-zero n))
+years = plain 6 0 99 Year (λ n. refl) (λ b. refl) (λ n. rw (leb-zero n))
 
 next : {r : ℕ} (k : ℕ) → k ≤ r → (r ≡ k → ⊥) → k < r
 next k h n = omega arith
 
-pub returns-in-Some : goal.returns-in-Some
-returns-in-Some c = seconds.some_at _ _ _ _ c.in-0.is c.from_bcd_within.ensures c.in-Some.is
+pub returns-in-0 : goal.returns-in-0
+returns-in-0 c =
+    let m : c.map.result ≡ option_map Second c.from_bcd_within.result = search rules in
+    seconds _ _ _ _ c.in-0.is c.from_bcd_within.ensures m
 
-pub returns-in-None : goal.returns-in-None
-returns-in-None c = seconds.none-at _ _ _ c.in-0.is c.from_bcd_within.ensures c.in-None.is
+pub returns-in-1 : goal.returns-in-1
+returns-in-1 c =
+    let m : c.map-in-1.result ≡ option_map Minute c.from_bcd_within-in-1.result = search rules in
+    minutes _ _ _ _ c.in-1.is c.from_bcd_within-in-1.ensures m
 
-pub returns-in-Some-from_bcd_within : goal.returns-in-Some-from_bcd_within
-returns-in-Some-from_bcd_within c = minutes.some_at _ _ _ _ c.in-1.is c.from_bcd_within-in-1.ensures c.in-Some-from_bcd_within.is
+pub returns-in-3 : goal.returns-in-3
+returns-in-3 c =
+    let m : c.map-in-3.result ≡ option_map Weekday c.from_bcd_within-in-3.result = search rules in
+    weekdays _ _ _ _ c.in-3.is c.from_bcd_within-in-3.ensures m
 
-pub returns-in-None-from_bcd_within : goal.returns-in-None-from_bcd_within
-returns-in-None-from_bcd_within c = minutes.none-at _ _ _ c.in-1.is c.from_bcd_within-in-1.ensures c.in-None-from_bcd_within.is
+pub returns-in-4 : goal.returns-in-4
+returns-in-4 c =
+    let m : c.map-in-4.result ≡ option_map Day c.from_bcd_within-in-4.result = search rules in
+    days _ _ _ _ c.in-4.is c.from_bcd_within-in-4.ensures m
 
-pub returns-in-Some-from_bcd_within-2 : goal.returns-in-Some-from_bcd_within-2
-returns-in-Some-from_bcd_within-2 c = weekdays.some_at _ _ _ _ c.in-3.is c.from_bcd_within-in-3.ensures c.in-Some-from_bcd_within-2.is
-
-pub returns-in-None-from_bcd_within-2 : goal.returns-in-None-from_bcd_within-2
-returns-in-None-from_bcd_within-2 c = weekdays.none-at _ _ _ c.in-3.is c.from_bcd_within-in-3.ensures c.in-None-from_bcd_within-2.is
-
-pub returns-in-Some-from_bcd_within-3 : goal.returns-in-Some-from_bcd_within-3
-returns-in-Some-from_bcd_within-3 c = days.some_at _ _ _ _ c.in-4.is c.from_bcd_within-in-4.ensures c.in-Some-from_bcd_within-3.is
-
-pub returns-in-None-from_bcd_within-3 : goal.returns-in-None-from_bcd_within-3
-returns-in-None-from_bcd_within-3 c = days.none-at _ _ _ c.in-4.is c.from_bcd_within-in-4.ensures c.in-None-from_bcd_within-3.is
-
-pub returns-in-Some-from_bcd_within-4 : goal.returns-in-Some-from_bcd_within-4
-returns-in-Some-from_bcd_within-4 c = years.some_at _ _ _ _ c.in-6.is c.from_bcd_within-in-6.ensures c.in-Some-from_bcd_within-4.is
-
-pub returns-in-None-from_bcd_within-4 : goal.returns-in-None-from_bcd_within-4
-returns-in-None-from_bcd_within-4 c = years.none-at _ _ _ c.in-6.is c.from_bcd_within-in-6.ensures c.in-None-from_bcd_within-4.is
+pub returns-in-6 : goal.returns-in-6
+returns-in-6 c =
+    let m : c.map-in-6.result ≡ option_map Year c.from_bcd_within-in-6.result = search rules in
+    years _ _ _ _ c.in-6.is c.from_bcd_within-in-6.ensures m
 
 pub returns-in_default : goal.returns-in_default
 returns-in_default c =

@@ -1,16 +1,14 @@
 -- `fields::decode_hour` meets its contract, in each hour mode.
 use mathlib.Core.Bool.{Bool, true, false, not, ◌&&◌}
-use mathlib.Core.Path.{◌≡◌, sym, ap, ◌∙◌}
+use mathlib.Core.Path.{◌≡◌, ap, ◌∙◌}
 use Prim.Native.Nat.{ℕ, ◌+◌, ◌/◌, ◌%◌, ◌≤◌, ◌<◌}
 use native.Mathlib.Omega.{arith}
 use lib.Bits.{bit_and, and_high}
 use lib.Dec.{leb, leb-zero}
 use borrow.Author.Tests.{eq-eqb, ne_eqb}
-use Rattle.std.specs.Prelude.{if◌then◌else◌}
+use Rattle.std.specs.Prelude.{if◌then◌else◌, Option, Some, None}
 use Rattle.fields.specs.Table.{undefined, sets, bit, from_digits, decimal, in_field, plain_meaning, dial_meaning, meaning}
-use Rattle.fields.specs.Answers.{of_digits_within}
-use Rattle.fields.specs.declared.FromBcd.{FromBcd}
-use Rattle.fields.specs.declared.FromBcd.TheVariants.{Some, None}
+use Rattle.fields.specs.Answers.{decoded_meaning, of_digits_within}
 use Rattle.fields.proofs.Digits.{each_answer, plain_some, plain_none, by_some, by_none}
 use borrow.Author.Rules.{rules}
 use Rattle.fields.proofs.decode_hour.Goals as goal
@@ -33,7 +31,7 @@ hours n = rw (leb-zero n)
 abbrev onDial : ℕ → Bool
 onDial b = not (bit 7 b) && decimal (b % 32) && leb 1 (from_digits (b % 32)) && leb (from_digits (b % 32)) 12
 
-abbrev dialOf : ℕ → FromBcd
+abbrev dialOf : ℕ → Option ℕ
 dialOf b = if onDial b then Some (from_digits (b % 32)) else None
 
 dial-is : (b : ℕ) → b < 256 → of_digits_within 1 12 (bit_and b 0x9F) ≡ dialOf b
@@ -54,14 +52,15 @@ half-day : (pm : Bool) → (if pm then 12 else 0) ≤ 12
 half-day true = omega arith
 half-day false = omega arith
 
-pub returns-in-Some : goal.returns-in-Some
-returns-in-Some c = plain_some 2 0 23 hours _ _ (sym c.in-Some.is ∙ c.from_bcd_within.ensures) ∙ plain-hour _ c.if-byte-eq0.true
+pub returns-in_err-hour : goal.returns-in_err-hour
+returns-in_err-hour c = ap decoded_meaning c.from_residual.ensures ∙ plain_none 2 0 23 hours _ c.in_err-hour.ensures ∙ plain-hour _ c.if-byte-eq0.true
 
-pub returns-in-None : goal.returns-in-None
-returns-in-None c = plain_none 2 0 23 hours _ (sym c.in-None.is ∙ c.from_bcd_within.ensures) ∙ plain-hour _ c.if-byte-eq0.true
+pub returns-then-byte-eq0 : goal.returns-then-byte-eq0
+returns-then-byte-eq0 c = plain_some 2 0 23 hours _ _ c.in_ok-hour.ensures ∙ plain-hour _ c.if-byte-eq0.true
 
-pub returns-in-Some-from_bcd_within : goal.returns-in-Some-from_bcd_within
-returns-in-Some-from_bcd_within c = dial-some _ _ _ (sym c.in-Some-from_bcd_within.is ∙ c.from_bcd_within-2.ensures ∙ dial-is _ (search rules)) c.afternoon.ensures ∙ dial-hour _ c.if-byte-eq0.false
+pub returns-in_err-on_dial : goal.returns-in_err-on_dial
+returns-in_err-on_dial c =
+    ap decoded_meaning c.from_residual-in_err-on_dial.ensures ∙ dial-none _ (c.in_err-on_dial.ensures ∙ dial-is _ (search rules)) ∙ dial-hour _ c.if-byte-eq0.false
 
-pub returns-in-None-from_bcd_within : goal.returns-in-None-from_bcd_within
-returns-in-None-from_bcd_within c = dial-none _ (sym c.in-None-from_bcd_within.is ∙ c.from_bcd_within-2.ensures ∙ dial-is _ (search rules)) ∙ dial-hour _ c.if-byte-eq0.false
+pub returns : goal.returns
+returns c = dial-some _ _ _ (c.in_ok-on_dial.ensures ∙ dial-is _ (search rules)) c.afternoon.ensures ∙ dial-hour _ c.if-byte-eq0.false

@@ -6,11 +6,9 @@ use native.Mathlib.Omega.{arith}
 use lib.Bits.{bit_and, and_high}
 use lib.Dec.{eqb}
 use borrow.Author.Tests.{eq-eqb, ne_eqb}
-use Rattle.std.specs.Prelude.{if◌then◌else◌}
+use Rattle.std.specs.Prelude.{if◌then◌else◌, Option, Some, None}
 use Rattle.fields.specs.Table.{undefined, sets, bit, from_digits, decimal, in_field, month_meaning, meaning}
-use Rattle.fields.specs.Answers.{of_digits_within}
-use Rattle.fields.specs.declared.FromBcd.{FromBcd}
-use Rattle.fields.specs.declared.FromBcd.TheVariants.{Some, None}
+use Rattle.fields.specs.Answers.{decoded_meaning, of_digits_within}
 use Rattle.fields.proofs.Digits.{each_answer, by_some, by_none}
 use borrow.Author.Rules.{rules}
 use Rattle.fields.proofs.decode_month.Goals as goal
@@ -19,10 +17,10 @@ use Rattle.fields.proofs.decode_month.Goals as goal
 abbrev isMonth : ℕ → Bool
 isMonth b = not (bit 6 b) && not (bit 5 b) && decimal (b % 32) && in_field 5 (from_digits (b % 32))
 
-abbrev month_of : ℕ → FromBcd
+abbrev month_of : ℕ → Option ℕ
 month_of b = if isMonth b then Some (from_digits (b % 32)) else None
 
-abbrev read : ℕ → FromBcd
+abbrev read : ℕ → Option ℕ
 read b = if eqb (bit_and b 0x60) 0 then of_digits_within 1 12 (bit_and b 0x1F) else None
 
 month-is : (b : ℕ) → b < 256 → read b ≡ month_of b
@@ -56,8 +54,8 @@ month-none b e = by_none (isMonth b) (from_digits (b % 32)) _ e
 pub returns-then-byte-ne0 : goal.returns-then-byte-ne0
 returns-then-byte-ne0 c = month-none _ (set-bits _ (search rules) c.if-byte-ne0.true)
 
-pub returns-in-Some : goal.returns-in-Some
-returns-in-Some c = month-some _ _ (sym c.in-Some.is ∙ c.from_bcd_within.ensures ∙ no_bits _ (search rules) c.if-byte-ne0.false)
+pub returns-in_err-month : goal.returns-in_err-month
+returns-in_err-month c = ap decoded_meaning c.from_residual.ensures ∙ month-none _ (c.in_err-month.ensures ∙ no_bits _ (search rules) c.if-byte-ne0.false)
 
-pub returns-in-None : goal.returns-in-None
-returns-in-None c = month-none _ (sym c.in-None.is ∙ c.from_bcd_within.ensures ∙ no_bits _ (search rules) c.if-byte-ne0.false)
+pub returns : goal.returns
+returns c = month-some _ _ (c.in_ok-month.ensures ∙ no_bits _ (search rules) c.if-byte-ne0.false)

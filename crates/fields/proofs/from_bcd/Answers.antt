@@ -3,7 +3,7 @@ use mathlib.Core.Logic.{⊎_elim}
 use mathlib.Core.Path.{ap, ◌∙◌}
 use native.Mathlib.Omega.{arith}
 use Rattle.fields.specs.Table.{from_digits}
-use Rattle.fields.specs.declared.FromBcd.TheVariants.{Some}
+use Rattle.std.specs.Prelude.{Some}
 use Rattle.fields.proofs.Digits.{two_digits, no_tens, no_ones}
 use Rattle.fields.proofs.from_bcd.Goals as goal
 

@@ -1,4 +1,4 @@
--- `script_listing::event_lines` meets its contract. The invariant of its loop: the lines of the first i records are appended.
+-- `script_listing::event_lines` meets its contract.
 use native.Mathlib.Nat.{le_antisymm}
 use native.Mathlib.Omega.{arith}
 use Rattle.script_listing.proofs.Events.{begins, turn}

@@ -1,29 +1,27 @@
 -- `ds3231_chip::power::power_on` meets its contract.
-use Rattle.ds3231.specs.Calls.{in_quarters}
-use lib.IntN.{ℤ}
-use Rattle.ds3231_chip.specs.declared.PowerOnAnswer.TheVariants.{Temperature}
-use mathlib.Core.Path.{refl, sym, ap, ◌∙◌}
+use mathlib.Core.Bool.{true, false}
+use mathlib.Core.Path.{◌≡◌, refl}
 use mir.Facts.{to_z-of_z}
 use mir.Syntax.{w16}
 use mir.Val.{SFits}
-use Rattle.calendar.specs.Answers.{validity_answer}
-use Rattle.calendar.proofs.Laws.{accepted_in_range}
-use Rattle.ds3231_chip.proofs.PowerLaws.{on, no_temperature}
 use borrow.Author.Rules.{rules}
+use Rattle.refusals.specs.Numbered.{accepted}
+use Rattle.refusals.proofs.Checks.{by_accepted}
+use Rattle.calendar.specs.Stated.{checked, weekday_of}
+use Rattle.calendar.proofs.Laws.{accepted_in_range, nearest_same}
+use Rattle.ds3231.specs.Calls.{in_quarters}
+use Rattle.ds3231_chip.proofs.PowerLaws.{power_is}
 use Rattle.ds3231_chip.proofs.power.power_on.Goals as goal
 
-pub chip_on-chip-requires : goal.chip_on-chip-requires
-chip_on-chip-requires c =
-    accepted_in_range _ (sym c.validate-validity.ensures ∙ ap validity_answer c.in-Valid.is)
+pub returns-then-not-in_quarters : goal.returns-then-not-in_quarters
+returns-then-not-in_quarters c =
+    let s : SFits w16 c.args.config.temperature_quarters = search rules in
+    let v = by_accepted (checked c.args.config.start) (weekday_of c.args.config.start) _ c.in_ok-weekday.ensures in
+    let q : in_quarters c.args.config.temperature_quarters ≡ false = search rules in
+    rw (to_z-of_z s, power_is c.args.config (accepted tt) false v.0 q) refl
 
-pub returns-then-in_quarters : goal.returns-then-in_quarters
-returns-then-in_quarters c =
-    let s : SFits w16 c.args.config.temperature_quarters = search (rules, c.struct_told-1.given) in
-    on _ _ (sym c.validate-validity.ensures ∙ ap validity_answer c.in-Valid.is) (ap in_quarters (sym (to_z-of_z s)) ∙ sym c.in_quarters.ensures ∙ c.if-in_quarters.true) refl
-    c.chip_on-chip.ensures
-
-pub returns-else-in_quarters : goal.returns-else-in_quarters
-returns-else-in_quarters c =
-    let s : SFits w16 c.args.config.temperature_quarters = search (rules, c.struct_told-1.given) in
-    no_temperature _ _ (sym c.validate-validity.ensures ∙ ap validity_answer c.in-Valid.is) (ap in_quarters (sym (to_z-of_z s)) ∙ sym c.in_quarters.ensures ∙ c.if-in_quarters.false)
-    (ap (λ (z : ℤ). Temperature z) (to_z-of_z s)) c.no_chip-chip.ensures
+pub returns : goal.returns
+returns c =
+    let v = by_accepted (checked c.args.config.start) (weekday_of c.args.config.start) _ c.in_ok-weekday.ensures in
+    let q : in_quarters c.args.config.temperature_quarters ≡ true = search rules in
+    rw (power_is c.args.config (accepted tt) true v.0 q, c.timing_from.ensures, c.set.ensures, c.registers_on.ensures, nearest_same _ (accepted_in_range _ v.0), v.1) refl

@@ -1,16 +1,24 @@
--- `script::runs::checked` meets its contract.
-use borrow.Author.Tests.{eq-eqb, ne_eqb}
-use Rattle.script.specs.Runs.{run_verdict}
+use Rattle.std.proofs.lemmas.Result.{err_from_is_err_and}
+use Rattle.std.proofs.lemmas.Bool.{eq-eqb, ne_eqb}
+use Rattle.script.specs.Runs.{checked_run}
 use Rattle.script.proofs.runs.checked.Goals as goal
 
-pub returns-then-not-is_sound : goal.returns-then-not-is_sound
-unfolding run_verdict
-returns-then-not-is_sound c = λ st l. rw (← c.is_sound.ensures, c.if-not-is_sound.true)
+pub returns-in_err-check_length : goal.returns-in_err-check_length
+unfolding checked_run
+returns-in_err-check_length c =
+    let p = err_from_is_err_and c.from_residual-in_err-check_length.result c.from_residual-in_err-check_length.ensures.1 in
+    rw (p.1, p.2, ← c.in_ok-checked_lent.ensures, ← c.in_err-check_length.ensures)
 
-pub returns-then-len-ne-MAX_DIAGNOSTICS : goal.returns-then-len-ne-MAX_DIAGNOSTICS
-unfolding run_verdict
-returns-then-len-ne-MAX_DIAGNOSTICS c = λ st l. rw (← c.is_sound.ensures, c.if-not-is_sound.false, l, ne_eqb _ _ c.if-len-ne-MAX_DIAGNOSTICS.true)
+pub returns-then-room-script : goal.returns-then-room-script
+unfolding checked_run
+returns-then-room-script c = rw (← c.in_ok-checked_lent.ensures, ← c.in_ok-check_length.ensures, ne_eqb _ _ c.if-room-script.true)
+
+pub returns-in_err-check_records : goal.returns-in_err-check_records
+unfolding checked_run
+returns-in_err-check_records c =
+    let p = err_from_is_err_and c.from_residual-in_err-check_records.result c.from_residual-in_err-check_records.ensures.1 in
+    rw (p.1, p.2, ← c.in_ok-checked_lent.ensures, ← c.in_ok-check_length.ensures, eq-eqb _ _ c.if-room-script.false, ← c.in_err-check_records.ensures)
 
 pub returns : goal.returns
-unfolding run_verdict
-returns c = λ st l. rw (← c.is_sound.ensures, c.if-not-is_sound.false, l, eq-eqb _ _ c.if-len-ne-MAX_DIAGNOSTICS.false) c.checked_run.ensures
+unfolding checked_run
+returns c = rw (← c.in_ok-checked_lent.ensures, ← c.in_ok-check_length.ensures, eq-eqb _ _ c.if-room-script.false, ← c.in_ok-check_records.ensures)

@@ -1,10 +1,7 @@
--- `script::runs::events` meets its contract.
-use Prim.Native.Nat.{◌-◌}
+-- After the first i records the chip, the records and the answer bytes are those of the run.
+use Rattle.std.proofs.Common.{length}
 use Rattle.script.proofs.Turns.{Through}
 use Rattle.script.proofs.runs.events.Given as goal
 
 abbrev pub invariant-loop-i : goal.invariant-loop-i
-invariant-loop-i l = Through (record { chip = l.initial.chip; store = l.initial.records }) l.script l.n l.i l.chip l.records l.answers
-
-abbrev pub decreases-loop-i : goal.decreases-loop-i
-decreases-loop-i l = l.n - l.i
+invariant-loop-i l = Through (record { chip = l.fn.chip; store = l.fn.records }) l.script (length l.fn.answers) l.i l.chip l.records l.answers

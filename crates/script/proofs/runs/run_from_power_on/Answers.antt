@@ -1,10 +1,5 @@
--- `script::runs::run_from_power_on` meets its contract.
-use mathlib.Core.Path.{ap}
-use lib.ListN.{replicate}
-use Rattle.diagnostics.specs.declared.I2cDiagnostic.{I2cDiagnostic}
-use Rattle.script.proofs.RunVerdicts.{powers_on, runs_from}
+use Rattle.script.proofs.RunVerdicts.{powers_on}
 use Rattle.script.proofs.runs.run_from_power_on.Goals as goal
 
-pub returns : goal.returns
-returns c =
-    runs_from (powers_on c.default.ensures _ c.power_on-powered.ensures) (ap (λ (d : I2cDiagnostic). replicate 256 d) c.unwritten-unwritten.ensures) c.run_values.ensures
+pub unwrap-chip-requires : goal.unwrap-chip-requires
+unwrap-chip-requires c = rw (powers_on _ _ c.default.ensures c.power_on.ensures)

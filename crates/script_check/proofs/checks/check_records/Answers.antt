@@ -1,16 +1,20 @@
-use Rattle.script_check.proofs.Folds.{none_passed, passes, stops, ends}
+use Rattle.std.proofs.Common.{arith, rules}
+use Rattle.std.proofs.lemmas.Result.{err_from_is_err_and}
+use Rattle.script_check.proofs.Folds.{none_passed, passes, stops, ends, numbered}
 use Rattle.script_check.proofs.checks.check_records.Goals as goal
 
 pub loop-i-init : goal.loop-i-init
 loop-i-init c = none_passed _
 
-pub returns-in-Fault : goal.returns-in-Fault
-returns-in-Fault c =
-    stops _ _ _ c.loop-i.invariant c.loop-i-test.true _ c.record_at.ensures _ c.judge-judgement.ensures _ c.in-Fault.is
+pub returns-in_err-last : goal.returns-in_err-last
+returns-in_err-last c =
+    let p = err_from_is_err_and c.from_residual.result c.from_residual.ensures.1 in
+    rw (p.1, p.2)
+    (stops _ _ _ c.loop-i.invariant (omega arith) _ c.as_chunks.ensures.front _ c.judge.ensures _ (search (rules, numbered)) _ c.in_err-last.was)
 
 pub loop-i-preserved : goal.loop-i-preserved
 loop-i-preserved c =
-    passes _ _ _ c.loop-i.invariant c.loop-i-test.true _ c.record_at.ensures _ c.judge-judgement.ensures _ c.in-Instant.is
+    passes _ _ _ c.loop-i.invariant (omega arith) _ c.as_chunks.ensures.front _ c.judge.ensures c.map_err.result (search (rules, numbered)) _ c.in_ok-last.was
 
 pub returns : goal.returns
-returns c = ends _ _ _ c.loop-i.invariant c.loop-i-test.false
+returns c = ends _ _ _ c.loop-i.invariant (omega arith)

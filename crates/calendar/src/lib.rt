@@ -104,7 +104,7 @@ impl DateTime {
 
     pub const LAST_YEAR: u16 = 2199;
 
-    // A valid time.
+    // A valid time. It takes six numbers, as the Rust's does.
     pub fn new(
         year: u16,
         month: u8,
@@ -167,8 +167,8 @@ impl DateTime {
         Some(DateTime::from_wrapped_seconds(seconds))
     }
 
-    // The time `seconds` after 2000-01-01T00:00:00, where 2000-01-01 follows 2199-12-31. Every number fits its field,
-    // here and in `civil_from_days`: `try_from` in place of `as` would have an answer for numbers that do not come.
+    // The time `seconds` after 2000-01-01T00:00:00, where 2000-01-01 follows 2199-12-31. Hour, minute and second fit
+    // their fields: `try_from` in place of `as` would have an answer for numbers that do not come.
     pub fn from_wrapped_seconds(seconds: u64) -> DateTime
         ensures { result ≡ time_of (seconds % 6311433600) }
     {
@@ -286,7 +286,8 @@ fn march_days(year: u64, month: u64, day: u64) -> u64
     days - DAYS_TO_2000
 }
 
-// The date `days` after 2000-01-01 (Hinnant's `civil_from_days`).
+// The date `days` after 2000-01-01 (Hinnant's `civil_from_days`). Year, month and day fit their fields: `try_from` in place of
+// `as` would have an answer for numbers that do not come.
 fn civil_from_days(days: u64) -> Date
     requires { days < 73049 }
     ensures { result ≡ date_of_day days }
@@ -314,7 +315,8 @@ fn civil_from_days(days: u64) -> Date
     }
 }
 
-// The day of the week, 1 to 7, of the day `days` after 2000-01-01, for a counter at `offset`.
+// The day of the week, 1 to 7, of the day `days` after 2000-01-01, for a counter at `offset`. It is at most 6 before 1 is
+// added, and fits: `try_from` in place of `as` would have an answer for numbers that do not come.
 pub fn weekday_of_day(days: u64, offset: u64) -> u8
     ensures { result ≡ (days + offset) % 7 + 1 }
 {

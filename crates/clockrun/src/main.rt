@@ -4,7 +4,7 @@
 
 mod words;
 
-use script_listing::{INPUT, LISTING, input_listing, within};
+use script_listing::{INPUT, LISTING, front, input_listing};
 use std::env::FillError;
 use std::io;
 use std::rt::{Env, Stdout};
@@ -37,12 +37,11 @@ fn usage(rt: &impl Eprint) {
     let _ = eprintln!(rt; "usage: clockrun <SCRIPT >LISTING (it takes no argument)");
 }
 
-// Prints the listing of an input by the first `n` bytes that were read of it.
+// Prints the listing of an input by the first `n` bytes that were read of it, in the array that `input_listing` asks for.
 fn print(rt: &impl Eprint, mut output: Stdout, input: [u8; INPUT], n: usize) {
     let mut out = [0u8; LISTING];
     let length = input_listing(input, n, &mut out);
-    let length = within(length, &out);
-    match write_output(&mut output, &out[..length]) {
+    match write_output(&mut output, front(length, &out)) {
         Ok(()) => {}
         Err(WriteError::Failed { error, .. }) => fail(rt, "standard output", error),
         Err(WriteError::Zero { .. }) => ended(rt, "standard output"),

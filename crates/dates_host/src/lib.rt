@@ -14,32 +14,19 @@ ghost use Rattle.dates_host.specs.Packed.{packed_date, host_date, host_seconds};
 use calendar::DateTime;
 use refusals::Refusal;
 
-// What each field of a packed date counts for: a second counts for 1, and each field before for 256 of the one after it.
-const MINUTE: u64 = 256;
-
-const HOUR: u64 = MINUTE * 256;
-
-const DAY: u64 = HOUR * 256;
-
-const MONTH: u64 = DAY * 256;
-
-const YEAR: u64 = MONTH * 256;
-
-// What the number of a refusal counts for: 2^56.
-const REFUSAL: u64 = YEAR * 65_536;
-
 // The date of a number of seconds since 2000, as one number: year × 2^40 + month × 2^32 + day × 2^24 + hour × 2^16 +
-// minute × 2^8 + second. A refusal is its number times 2^56.
+// minute × 2^8 + second. A refusal is its number times 2^56: one number is what the C interface has.
 pub fn clock_date_from_seconds(seconds: u64) -> u64
     ensures { result ≡ host_date (and_then (checked_seconds seconds) (accepted (time_of seconds))) }
 {
     match DateTime::from_seconds_since_2000(seconds) {
         Some(date) => packed(date),
+        // The calls answer as the Rust's do, this one an `Option`: its one refusal has no error to ask for its number.
         None => refused(8),
     }
 }
 
-// The seconds since 2000 of a date. A refusal is its number times 2^56.
+// The seconds since 2000 of a date. A refusal is its number times 2^56: numbers are what the C interface has.
 pub fn clock_seconds_from_date(
     year: u16,
     month: u8,
@@ -64,21 +51,26 @@ pub fn clock_seconds_from_date(
     }
 }
 
-// A date as one number.
+// A date as one number: the highest byte is 0, the next two are the year, and each other field has one.
 fn packed(date: DateTime) -> u64
     ensures { result ≡ packed_date date }
 {
-    u64::from(date.year) * YEAR
-        + u64::from(date.month) * MONTH
-        + u64::from(date.day) * DAY
-        + u64::from(date.hour) * HOUR
-        + u64::from(date.minute) * MINUTE
-        + u64::from(date.second)
+    let [year_high, year_low] = date.year.to_be_bytes();
+    u64::from_be_bytes([
+        0,
+        year_high,
+        year_low,
+        date.month,
+        date.day,
+        date.hour,
+        date.minute,
+        date.second,
+    ])
 }
 
-// A refusal, by its number.
+// A refusal: its number is the highest byte.
 fn refused(number: u8) -> u64
     ensures { result ≡ number * 2 ^ 56 }
 {
-    u64::from(number) * REFUSAL
+    u64::from_be_bytes([number, 0, 0, 0, 0, 0, 0, 0])
 }

@@ -1,5 +1,6 @@
 // The two calls of `dates_host` for a host in C or Rust, as an archive: each export calls the function of its name there, and
 // promises the same.
+// A crate is a library or an archive, and a host in C links an archive.
 #![tactic(auto)]
 
 ghost use Rattle.std.specs.Prelude.{◌≡◌};

@@ -7,6 +7,10 @@ use Rattle.diagnostics.specs.declared.LentError.{LentError}
 use Rattle.diagnostics.specs.declared.Posting.{Posting}
 use Rattle.diagnostics.specs.declared.ReportOutcome.{ReportOutcome}
 
+-- a report's record at the waiting count before it
+abbrev pub posting_of : Diagnostics → I2cDiagnostic → Posting
+posting_of n d = record { slot = n.waiting; «record» = d }
+
 -- the store after a posting, if there is one: past the store's end nothing is set
 abbrev pub posted : Option Posting → List I2cDiagnostic → List I2cDiagnostic
 posted None s = s

@@ -7,7 +7,7 @@ ghost use Rattle.std.specs.Prelude.{◌≡◌};
 ghost use Rattle.diagnostics.specs.Reports.{counted, unwritten, report as report_of};
 ghost use Rattle.diagnostics.specs.Lent.{not_sound_row, lent_row, ReportedTo};
 ghost use Rattle.diagnostics.specs.declared.LentError.TheVariants.{NotSound as LentNotSound};
-ghost use Rattle.diagnostics.specs.ByValue.{posted, ReportedOnStores};
+ghost use Rattle.diagnostics.specs.ByValue.{posted, posting_of, ReportedOnStores};
 
 use refusals::Refusal;
 use thiserror::Error;
@@ -21,6 +21,7 @@ pub enum ChipName {
     Ds3231,
 }
 
+// What is reported. A register is a number, as the Rust has it: a pointer past the last is none of the registers.
 #[derive(Clone, Copy, Debug, PartialEq, Eq, Hash)]
 pub enum I2cDiagnosticKind {
     // Control enabled the INT/SQW output, which is not modelled: the byte as written.
@@ -81,7 +82,7 @@ impl Refusal for NotSound {
     }
 }
 
-// Why a call that is lent a store is refused.
+// Why a call that is lent a store is refused. `NotSound` has no value: the error of that name would add nothing to it.
 #[derive(Clone, Copy, Debug, PartialEq, Eq, Error)]
 pub enum LentError {
     #[error("the chip or the counts are not sound")]
@@ -111,13 +112,23 @@ impl From<NotSound> for LentError {
 
 // How many records wait in the store, from its start, and how many reports were dropped since power-on. The store is lent, of
 // 256 records: a chip needs no heap.
-#[derive(Clone, Copy, Debug, PartialEq, Eq)]
+#[derive(Clone, Copy, Debug, Default, PartialEq, Eq)]
 pub struct Diagnostics {
     pub waiting: usize,
     pub dropped: u64,
 }
 
 impl Diagnostics {
+    // A report stands at the waiting count before it.
+    pub fn posting(self, report: I2cDiagnostic) -> Posting
+        ensures { result ≡ posting_of self report }
+    {
+        Posting {
+            slot: self.waiting,
+            record: report,
+        }
+    }
+
     // The counts after one more report: it waits in the store, or is dropped where the store is full.
     pub fn one_more(self) -> Diagnostics
         ensures { result ≡ counted self }
@@ -149,7 +160,7 @@ impl Diagnostics {
         Ok(())
     }
 
-    // A report by value, into a store of `len` records.
+    // A report by value, into a store of `len` records. It tests the counts alone: `checked_lent` of `ds3231_chip` tests a whole chip.
     fn reported(
         self,
         len: usize,
@@ -166,10 +177,7 @@ impl Diagnostics {
         }
         Ok(ReportOutcome {
             counts: self.one_more(),
-            posting: Posting {
-                slot: self.waiting,
-                record: I2cDiagnostic::new(at, kind),
-            },
+            posting: self.posting(I2cDiagnostic::new(at, kind)),
         })
     }
 }
@@ -182,7 +190,7 @@ struct ReportOutcome {
 }
 
 // Writes a report's record into a lent store, if there is one and the store has its place. No other function puts a report
-// into a lent store.
+// into a lent store. With `get_mut` it does not prove: of a slice after it the length is known, and no element.
 pub fn post(store: &mut [I2cDiagnostic], posting: Option<Posting>)
     ensures { store.new ≡ posted posting store.old }
 {

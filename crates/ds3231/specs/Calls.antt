@@ -141,6 +141,12 @@ register_reports r b t g =
     else if leb 0x11 r then report t (ReadOnly r) ∷ []
     else []
 
+-- 'Script answers': START and WRITE 1 or 0, READ the byte, STOP 0
+abbrev pub reply_byte : Reply → ℕ
+reply_byte (Acknowledge b) = if b then 1 else 0
+reply_byte (Byte b) = b
+reply_byte Done = 0
+
 -- an event that changes and reports nothing
 abbrev pub replied_only : Reply → Ds3231 → Step
 replied_only y c = record { timing = c.timing; registers = c.registers; reports = []; reply = y }

@@ -48,8 +48,8 @@ unfoldable pub named : ℕ → Option Register
 named n = named_in register_map n
 
 -- a number that names none, and 'The table of refusals': 9
-abbrev pub no_register : ℕ → NoSuchRegister
-no_register n = record { number = n }
+abbrev pub no_register : NoSuchRegister
+no_register = record {}
 
 abbrev pub register_row : NoSuchRegister → Row
 register_row e = record { number = 9; values = [] }

@@ -6,7 +6,7 @@
 #![tactic(auto)]
 
 ghost use Rattle.std.specs.Prelude.{◌≡◌};
-ghost use Rattle.ds3231.specs.Calls.{default_config};
+ghost use Rattle.ds3231.specs.Calls.{default_config, reply_byte};
 
 use calendar::DateTime;
 use diagnostics::Diagnostics;
@@ -71,7 +71,7 @@ pub enum Phase {
 }
 
 // What keeps the time and follows the bus. A second of the pending time begins at the instant `pending_at`, which counts only
-// where there is one: inside the pending time it was measured, and setting the time was slower than the Rust.
+// where there is one: with it inside the pending time, setting the time is slower than the Rust.
 #[derive(Clone, Copy, Debug)]
 pub struct Timing {
     pub phase: Phase,
@@ -147,4 +147,17 @@ pub enum Reply {
     Acknowledge(bool),
     Byte(u8),
     Done,
+}
+
+// START and WRITE 1 or 0, READ the byte, STOP 0.
+impl From<Reply> for u8 {
+    ghost from_gives = { λ reply r. r ≡ reply_byte reply };
+
+    fn from(reply: Reply) -> u8 {
+        match reply {
+            Reply::Acknowledge(acknowledged) => u8::from(acknowledged),
+            Reply::Byte(byte) => byte,
+            Reply::Done => 0,
+        }
+    }
 }

@@ -9,10 +9,8 @@ use thiserror::Error;
 
 // A number above 0x12.
 #[derive(Clone, Copy, Debug, PartialEq, Eq, Error)]
-#[error("there is no register {number}; the last is 18")]
-pub struct NoSuchRegister {
-    pub number: u8,
-}
+#[error("there is no such register; the last is 18")]
+pub struct NoSuchRegister;
 
 impl Refusal for NoSuchRegister {
     ghost row = { register_row };
@@ -22,11 +20,11 @@ impl Refusal for NoSuchRegister {
     }
 }
 
-// The register of a number.
+// The register of a number, an arm for each: in a constant array a number would stand by its place alone.
 impl TryFrom<u8> for Register {
     type Error = NoSuchRegister;
 
-    ghost try_from_gives = { λ n r. r ≡ ok_or (named n) (no_register n) };
+    ghost try_from_gives = { λ n r. r ≡ ok_or (named n) no_register };
 
     fn try_from(number: u8) -> Result<Register, NoSuchRegister> {
         match number {
@@ -49,13 +47,13 @@ impl TryFrom<u8> for Register {
             0x10 => Ok(Register::Aging),
             0x11 => Ok(Register::TemperatureMsb),
             0x12 => Ok(Register::TemperatureLsb),
-            _ => Err(NoSuchRegister { number }),
+            _ => Err(NoSuchRegister),
         }
     }
 }
 
 impl Register {
-    // Its number.
+    // Its number, which `as` alone takes of an enum.
     pub fn number(self) -> u8
         ensures { result ≡ number_of self }
     {
@@ -66,9 +64,6 @@ impl Register {
     pub fn next(self) -> Register
         ensures { result ≡ next_pointer self }
     {
-        match Register::try_from(self.number() + 1) {
-            Ok(next) => next,
-            Err(_) => Register::Seconds,
-        }
+        Register::try_from(self.number() + 1).unwrap_or(Register::Seconds)
     }
 }

@@ -5,13 +5,12 @@ use Rattle.refusals.specs.Numbered.{Numbered, accepted, Row, refused_by}
 use Rattle.diagnostics.specs.Lent.{lent_row}
 use Rattle.diagnostics.specs.declared.I2cDiagnostic.{I2cDiagnostic}
 use Rattle.diagnostics.specs.declared.LentError.{LentError}
-use Rattle.diagnostics.specs.declared.LentError.TheVariants as Lent
 use Rattle.ds3231.specs.Calls.{Answered, replied, copied, bus, taking, chip_after, store_after, out_after, answer}
 use Rattle.ds3231.specs.declared.Ds3231.{Ds3231}
 use Rattle.ds3231.specs.declared.Event.{Event}
 use Rattle.ds3231.specs.declared.Reply.{Reply}
 use Rattle.ds3231_bus.specs.declared.takings.TakeError.{TakeError}
-use Rattle.ds3231_bus.specs.declared.takings.TakeError.TheVariants.{NotSound, StoreLength, OutTooShort}
+use Rattle.ds3231_bus.specs.declared.takings.TakeError.TheVariants.{Lent, OutTooShort}
 
 -- an event's reply, or 'The table of refusals': 10, 11
 abbrev pub bus_numbered : Result Reply LentError → Numbered Answered
@@ -20,13 +19,8 @@ bus_numbered (Err e) = refused_by (lent_row e)
 
 -- 'The table of refusals': taking 10, 11, 12
 abbrev pub take_row : TakeError → Row
-take_row NotSound = record { number = 10; values = [] }
-take_row StoreLength = record { number = 11; values = [] }
+take_row (Lent e) = lent_row e
 take_row OutTooShort = record { number = 12; values = [] }
-
-abbrev pub taken_refusal : LentError → TakeError
-taken_refusal Lent.NotSound = NotSound
-taken_refusal Lent.StoreLength = StoreLength
 
 -- how many records taking copied, or its refusal
 abbrev pub take_numbered : Result ℕ TakeError → Numbered Answered

@@ -1,6 +1,7 @@
 // The DS3231 as a target on the bus: the public calls take the chip by mutable reference and a lent store of 256 records.
 // Each is thin: it copies the chip out, asks a function by value what the call leaves (`outcomes`, `takings`), and stores
-// that; a report goes to the store by `diagnostics::post`. A refusal leaves chip, store and output as they are.
+// that; a report goes to the store by `diagnostics::post`. A refusal leaves chip, store and output as they are. Chip and store
+// are lent apart, as document 01 has it; `bus_by_value` has both as one value.
 #![tactic(auto)]
 
 ghost use Rattle.std.specs.Prelude.{List, Result};

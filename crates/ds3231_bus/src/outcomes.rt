@@ -31,8 +31,5 @@ pub(crate) fn called(chip: Ds3231, len: usize, event: Event) -> Result<Outcome, 
 fn posting(report: Option<I2cDiagnostic>, counts: Diagnostics) -> Option<Posting>
     ensures { PostsReports (option_to_list report) counts result }
 {
-    report.map(|record| Posting {
-        slot: counts.waiting,
-        record,
-    })
+    report.map(|record| counts.posting(record))
 }

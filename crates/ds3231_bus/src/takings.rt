@@ -1,7 +1,8 @@
 // What taking leaves, by value: the chip, and how many records are copied.
 ghost use Rattle.std.specs.Prelude.{◌≡◌};
-ghost use Rattle.ds3231_bus.specs.Answers.{take_row, taken_refusal};
+ghost use Rattle.ds3231_bus.specs.Answers.{take_row};
 ghost use Rattle.ds3231_bus.specs.ByValue.{TookOnStores};
+ghost use Rattle.ds3231_bus.specs.declared.takings.TakeError.TheVariants.{Lent as OfLent};
 
 use diagnostics::{Diagnostics, LentError};
 use ds3231::Ds3231;
@@ -12,10 +13,8 @@ use thiserror::Error;
 // Why taking is refused.
 #[derive(Clone, Copy, Debug, PartialEq, Eq, Error)]
 pub enum TakeError {
-    #[error("the chip is not sound")]
-    NotSound,
-    #[error("the store does not have 256 records")]
-    StoreLength,
+    #[error(transparent)]
+    Lent(LentError),
     #[error("fewer records are lent than wait")]
     OutTooShort,
 }
@@ -25,21 +24,18 @@ impl Refusal for TakeError {
 
     fn number(&self) -> u8 {
         match self {
-            TakeError::NotSound => 10,
-            TakeError::StoreLength => 11,
+            TakeError::Lent(error) => error.number(),
             TakeError::OutTooShort => 12,
         }
     }
 }
 
+// Written out: a `From` that `#[from]` derives has no contract, and of the error that `?` then answers nothing is known.
 impl From<LentError> for TakeError {
-    ghost from_gives = { λ d e. e ≡ taken_refusal d };
+    ghost from_gives = { λ d e. e ≡ OfLent d };
 
     fn from(error: LentError) -> TakeError {
-        match error {
-            LentError::NotSound => TakeError::NotSound,
-            LentError::StoreLength => TakeError::StoreLength,
-        }
+        TakeError::Lent(error)
     }
 }
 

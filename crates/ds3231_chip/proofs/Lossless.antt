@@ -34,11 +34,11 @@ powered_lossless = answered_lossless config_row (lossless config_row config_of c
 
 -- `register`; of `now` and the dropped count it is `asked_lossless` of `diagnostics`
 abbrev register_of : Row → RegisterError
-register_of r = if eqb r.number 9 then NoSuchRegister else NotSound
+register_of r = if eqb r.number 9 then NoSuchRegister (record {}) else NotSound (record {})
 
 register_back : (e : RegisterError) → register_of (asked_row e) ≡ e
-register_back NotSound = refl
-register_back NoSuchRegister = refl
+register_back (NotSound e) = refl
+register_back (NoSuchRegister e) = refl
 
 pub register_lossless : {A : Type 0} (p q : Result A RegisterError) → answered asked_row p ≡ answered asked_row q → p ≡ q
 register_lossless = answered_lossless asked_row (lossless asked_row register_of register_back)

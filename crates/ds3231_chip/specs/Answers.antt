@@ -3,8 +3,10 @@ use Rattle.computed.specs.Prelude.{ℕ, false, not, [], pos, eqb, replicate}
 use Rattle.std.specs.Prelude.{◌∷◌, if◌then◌else◌, None}
 use Rattle.refusals.specs.Numbered.{Numbered, accepted, refused, Row}
 use Rattle.calendar.specs.Answers.{date_row}
+use Rattle.diagnostics.specs.Lent.{not_sound_row}
 use Rattle.ds3231.specs.declared.Phase.TheVariants.{Released}
 use Rattle.ds3231.specs.declared.Register.TheVariants.{Seconds}
+use Rattle.ds3231.specs.Map.{register_row}
 use Rattle.ds3231.specs.Numbers.{range}
 use Rattle.ds3231.specs.Calls.{sound}
 use Rattle.ds3231.specs.declared.Ds3231.{Ds3231}
@@ -32,8 +34,8 @@ no_chip = record {
 
 -- 'The table of refusals': `register` 10, 9
 abbrev pub asked_row : RegisterError → Row
-asked_row NotSound = record { number = 10; values = [] }
-asked_row NoSuchRegister = record { number = 9; values = [] }
+asked_row (NotSound e) = not_sound_row e
+asked_row (NoSuchRegister e) = register_row e
 
 -- ---- the calls that are lent a store
 

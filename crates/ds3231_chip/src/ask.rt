@@ -17,10 +17,10 @@ use thiserror::Error;
 // Why `register` is refused.
 #[derive(Clone, Copy, Debug, PartialEq, Eq, Error)]
 pub enum RegisterError {
-    #[error("the chip is not sound")]
-    NotSound,
-    #[error("there is no such register; the last is 18")]
-    NoSuchRegister,
+    #[error(transparent)]
+    NotSound(NotSound),
+    #[error(transparent)]
+    NoSuchRegister(NoSuchRegister),
 }
 
 impl Refusal for RegisterError {
@@ -28,25 +28,27 @@ impl Refusal for RegisterError {
 
     fn number(&self) -> u8 {
         match self {
-            RegisterError::NotSound => 10,
-            RegisterError::NoSuchRegister => 9,
+            RegisterError::NotSound(error) => error.number(),
+            RegisterError::NoSuchRegister(error) => error.number(),
         }
     }
 }
 
+// Written out: a `From` that `#[from]` derives has no contract, and of the error that `?` then answers nothing is known.
 impl From<NotSound> for RegisterError {
-    ghost from_gives = { λ _ e. e ≡ ChipNotSound };
+    ghost from_gives = { λ d e. e ≡ ChipNotSound d };
 
-    fn from(_error: NotSound) -> RegisterError {
-        RegisterError::NotSound
+    fn from(error: NotSound) -> RegisterError {
+        RegisterError::NotSound(error)
     }
 }
 
+// Written out: a `From` that `#[from]` derives has no contract, and of the error that `?` then answers nothing is known.
 impl From<NoSuchRegister> for RegisterError {
-    ghost from_gives = { λ _ e. e ≡ NumberTooLarge };
+    ghost from_gives = { λ d e. e ≡ NumberTooLarge d };
 
-    fn from(_error: NoSuchRegister) -> RegisterError {
-        RegisterError::NoSuchRegister
+    fn from(error: NoSuchRegister) -> RegisterError {
+        RegisterError::NoSuchRegister(error)
     }
 }
 

@@ -36,6 +36,7 @@ impl Refusal for Ds3231ConfigError {
     }
 }
 
+// Written out: a `From` that `#[from]` derives has no contract, and of the error that `?` then answers nothing is known.
 impl From<DateTimeError> for Ds3231ConfigError {
     ghost from_gives = { λ d e. e ≡ Start d };
 
@@ -55,10 +56,7 @@ pub fn power_on(config: Ds3231Config) -> Result<Ds3231, Ds3231ConfigError>
     Ok(Ds3231 {
         timing: timing_from(clock::set(config.start, weekday, 0)),
         registers: registers_on(config),
-        diagnostics: Diagnostics {
-            waiting: 0,
-            dropped: 0,
-        },
+        diagnostics: Diagnostics::default(),
     })
 }
 
@@ -90,6 +88,7 @@ fn registers_on(config: Ds3231Config) -> Registers
     }
 }
 
+// OSF where the oscillator had stopped, a condition of its own as the bits of `fields`.
 fn status_on(oscillator_stopped: bool) -> u8
     ensures { result ≡ (if oscillator_stopped then 0x88 else 0x08) }
 {
@@ -100,7 +99,8 @@ fn status_on(oscillator_stopped: bool) -> u8
     }
 }
 
-// A chip that is not sound, for a place that has none yet: its base seconds are out of range, and every call on it gives 10.
+// A chip that is not sound, for a place that has none yet: its base seconds are out of range, and every call on it gives 10. With an
+// `Option` of a chip in that place each later call of a program would be an arm.
 pub fn no_chip() -> Ds3231
     ensures { result ≡ no_chip }
 {
@@ -127,12 +127,10 @@ pub fn no_chip() -> Ds3231
         temperature_quarters: 0,
         int_sqw_reported: false,
     };
+    let diagnostics = Diagnostics::default();
     Ds3231 {
         timing,
         registers,
-        diagnostics: Diagnostics {
-            waiting: 0,
-            dropped: 0,
-        },
+        diagnostics,
     }
 }

@@ -13,16 +13,13 @@ use ds3231_registers::registers::CONV;
 // The status bits that the chip keeps: OSF, EN32kHz, A2F and A1F.
 const STATUS_BITS: u8 = 0x8B;
 
-// Valid apart from its day, which is 1 to 31.
+// Valid apart from its day, which is 1 to 31: `validate` holds the day to its month, and answers which field is wrong.
 fn sound_time(time: DateTime) -> bool
     ensures { result ≡ sound_time time }
 {
-    (DateTime::FIRST_YEAR <= time.year)
-        & (time.year <= DateTime::LAST_YEAR)
-        & (1 <= time.month)
-        & (time.month <= 12)
-        & (1 <= time.day)
-        & (time.day <= 31)
+    (DateTime::FIRST_YEAR..=DateTime::LAST_YEAR).contains(&time.year)
+        & (1..=12).contains(&time.month)
+        & (1..=31).contains(&time.day)
         & (time.hour <= 23)
         & (time.minute <= 59)
         & (time.second <= 59)
@@ -31,10 +28,11 @@ fn sound_time(time: DateTime) -> bool
 fn sound_pending(pending: PendingTime) -> bool
     ensures { result ≡ sound_pending pending }
 {
-    sound_time(pending.time) & (1 <= pending.weekday) & (pending.weekday <= 7)
+    sound_time(pending.time) & (1..=7).contains(&pending.weekday)
 }
 
 // The pointer is at most 0x12 by its type.
+#[tactic(auto, unfolding(ds3231::specs::Calls::sound_timing))]
 fn sound_timing(timing: Timing) -> bool
     ensures { result ≡ sound_timing timing }
 {
@@ -44,10 +42,11 @@ fn sound_timing(timing: Timing) -> bool
         & timing.pending.is_none_or(sound_pending)
 }
 
+#[tactic(auto, unfolding(ds3231::specs::Calls::in_quarters))]
 pub(crate) fn in_quarters(quarters: i16) -> bool
     ensures { result ≡ in_quarters quarters }
 {
-    (-512 <= quarters) & (quarters <= 511)
+    (-512..=511).contains(&quarters)
 }
 
 fn sound_registers(registers: Registers) -> bool
@@ -58,6 +57,7 @@ fn sound_registers(registers: Registers) -> bool
         & (registers.status & STATUS_BITS == registers.status)
 }
 
+#[tactic(auto, unfolding(ds3231::specs::Calls::sound))]
 pub fn is_sound(chip: Ds3231) -> bool
     ensures { result ≡ sound chip }
 {
@@ -76,7 +76,8 @@ pub fn checked(chip: Ds3231) -> Result<(), NotSound>
     Ok(())
 }
 
-// Whether the chip is sound and the store that it is lent, of `len` records, has 256, as a call tests it that is lent one.
+// Whether the chip is sound and the store that it is lent, of `len` records, has 256, as a call tests it that is lent one. A call by
+// value has of the store its length alone.
 pub fn checked_lent(chip: Ds3231, len: usize) -> Result<(), LentError>
     ensures { answered lent_row result ≡ lent_verdict chip len }
 {

@@ -39,7 +39,7 @@ pub(crate) fn second_start(clock: Clock, at: u64) -> u64
 }
 
 // The clock at the time nearest to `time`, a second beginning at `base_at`, with `weekday` that day. It is inlined: out of line,
-// setting the time was slower than the Rust.
+// setting the time is slower than the Rust.
 #[inline(always)]
 pub fn set(time: DateTime, weekday: u8, base_at: u64) -> Clock
     ensures { result ≡ clock_set (nearest time) weekday base_at }

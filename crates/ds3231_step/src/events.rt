@@ -10,8 +10,8 @@ use crate::Stepped;
 use crate::reports::{commit_report, counted, register_report};
 use diagnostics::{I2cDiagnostic, I2cDiagnosticKind};
 use ds3231::{Ds3231, Event, Phase, Register, Reply, Timing};
-use ds3231_registers::registers::YEAR;
 use ds3231_registers::{registers, timing};
+use fields::YEAR;
 
 // The chip's address on the bus.
 const ADDRESS: u8 = 0x68;
@@ -121,8 +121,8 @@ fn write_register(chip: Ds3231, byte: u8, at: u64) -> Stepped
     let before = chip.timing;
     let register = before.pointer.number();
     let decoded = fields::decode(register, byte);
-    let report = register_report(decoded.is_some(), chip.registers, register, byte, at);
-    // A byte at a time register leaves the other registers.
+    let report = register_report(decoded.is_some(), chip.registers, before.pointer, byte, at);
+    // A byte at a time register, by its number as in `register_report`, leaves the other registers.
     let mut registers = chip.registers;
     if register > YEAR {
         registers = registers::write_register(registers, register, byte, at);

@@ -3,35 +3,38 @@ ghost use Rattle.std.specs.Prelude.{not, ◌&&◌, [], ◌∷◌, ◌≡◌, if�
 ghost use Rattle.diagnostics.specs.Reports.{report, counted_all};
 ghost use Rattle.diagnostics.specs.declared.I2cDiagnosticKind.TheVariants.{NotModelled, Undefined};
 ghost use Rattle.fields.specs.Table.{meaning};
+ghost use Rattle.ds3231.specs.Map.{number_of};
 ghost use Rattle.ds3231.specs.Timing.{is_defined};
 ghost use Rattle.ds3231.specs.Registers.{enables_output};
 ghost use Rattle.ds3231.specs.Calls.{commit_reports, register_reports};
 
 use calendar::days_in_month;
 use diagnostics::{Diagnostics, I2cDiagnostic, I2cDiagnosticKind};
-use ds3231::{PendingTime, Registers};
-use ds3231_registers::registers::{CONTROL, DATE, TEMPERATURE_MSB, YEAR, enables_output};
-use fields::to_bcd;
+use ds3231::{PendingTime, Register, Registers};
+use ds3231_registers::registers::enables_output;
+use fields::{YEAR, to_bcd};
 
-// What a byte written to a register reports: `defined` says whether it is defined there.
+// What a byte written to a register reports: `defined` says whether it is defined there, and which field it sets is of no matter.
+// Registers are compared by number: with an arm for each, setting the time is slower than the Rust where chip and store are read.
 pub(crate) fn register_report(
     defined: bool,
     registers: Registers,
-    register: u8,
+    register: Register,
     byte: u8,
     at: u64,
 ) -> Option<I2cDiagnostic>
-    requires { defined ≡ is_defined (meaning register byte) }
-    ensures { option_to_list result ≡ register_reports register byte at registers }
+    requires { defined ≡ is_defined (meaning (number_of register) byte) }
+    ensures { option_to_list result ≡ register_reports (number_of register) byte at registers }
 {
-    if register <= YEAR {
-        return time_report(defined, register, byte, at);
+    let number = register.number();
+    if number <= YEAR {
+        return time_report(defined, number, byte, at);
     }
-    if register == CONTROL {
+    if register == Register::Control {
         return control_report(registers, byte, at);
     }
-    if register >= TEMPERATURE_MSB {
-        return Some(I2cDiagnostic::new(at, I2cDiagnosticKind::ReadOnly { register }));
+    if number >= Register::TemperatureMsb.number() {
+        return Some(I2cDiagnostic::new(at, I2cDiagnosticKind::ReadOnly { register: number }));
     }
     None
 }
@@ -69,7 +72,7 @@ pub(crate) fn commit_report(pending: Option<PendingTime>, at: u64) -> Option<I2c
         return None;
     }
     let kind = I2cDiagnosticKind::Undefined {
-        register: DATE,
+        register: Register::Date.number(),
         value: to_bcd(time.day),
     };
     Some(I2cDiagnostic::new(at, kind))

@@ -72,10 +72,27 @@ fn set_the_hour(rt: &impl Print, session: &mut Panel) {
     text::bus(rt, session.write(0x61, 1_000_200_000));
     text::bus(rt, session.write(0x08, 1_000_300_000));
     text::bus(rt, session.stop(1_000_400_000));
-    text::now(rt, now(session.chip, 2_500_000_000));
-    text::register(rt, register(session.chip, 0x11, 2_500_000_000));
-    text::register(rt, register(session.chip, 0x12, 2_500_000_000));
-    text::dropped(rt, dropped_diagnostics(session.chip));
+    text::answer(
+        rt,
+        now(session.chip, 2_500_000_000),
+        |time| text::now(rt, time),
+    );
+    show_register(rt, session.chip, 0x11);
+    show_register(rt, session.chip, 0x12);
+    text::answer(
+        rt,
+        dropped_diagnostics(session.chip),
+        |count| text::number(rt, count),
+    );
+}
+
+// A register at 2.5 s.
+fn show_register(rt: &impl Print, chip: Ds3231, number: u8) {
+    text::answer(
+        rt,
+        register(chip, number, 2_500_000_000),
+        |byte| text::byte(rt, byte),
+    );
 }
 
 // Runs the script on the session's chip and store.

@@ -11,8 +11,8 @@ ghost use Rattle.fields.specs.Answers.{decoded_meaning, of_digits, of_digits_wit
 
 use calendar::DateTime;
 
-// The register map of the time.
-pub const SECONDS: u8 = 0x00;
+// The register map of the time, as numbers: a caller may ask for any, and the enum of the registers is of a crate above.
+const SECONDS: u8 = 0x00;
 
 const MINUTES: u8 = 0x01;
 
@@ -20,7 +20,7 @@ const HOURS: u8 = 0x02;
 
 const WEEKDAY: u8 = 0x03;
 
-pub const DATE: u8 = 0x04;
+const DATE: u8 = 0x04;
 
 const MONTH: u8 = 0x05;
 
@@ -57,6 +57,7 @@ pub fn time_bytes(time: DateTime, weekday: u8, twelve_hour: bool) -> [u8; 7]
     ensures { result ≡ time_bytes time weekday twelve_hour }
 {
     let century = century_bit(time.year);
+    // It is below 100 and fits: `try_from` in place of `as` would have an answer for numbers that do not come.
     let two_digits = (time.year % YEARS_PER_CENTURY) as u8;
     [
         to_bcd(time.second),
@@ -69,7 +70,8 @@ pub fn time_bytes(time: DateTime, weekday: u8, twelve_hour: bool) -> [u8; 7]
     ]
 }
 
-// Bit 7 of the month register: set from 2100 on.
+// Bit 7 of the month register: set from 2100 on. Each bit below is a condition of its own: one function for all would take both as
+// parameters, and be the `if`.
 fn century_bit(year: u16) -> u8
     ensures { result ≡ (if leb 2100 year then 0x80 else 0) }
 {

@@ -1,5 +1,6 @@
 // The parts of a line, pushed to a text of its own, whose type bounds its length; a line that is whole is copied to the lent
-// slice. It is not printed by `write!`, which answers an error that no contract rules out.
+// slice. It is not printed by `write!`, which answers an error that no contract rules out. Each `requires` says how much room its
+// part needs, which differs: no one type of a line has it.
 ghost use Rattle.std.specs.Prelude.{◌+◌, ◌≤◌, ◌<◌, [], ◌∷◌, ◌++◌, ◌≡◌, length, option_to_list};
 ghost use Rattle.arrayvec.specs.ArrayString.{array_string_len};
 ghost use Rattle.diagnostics.specs.Reports.{line_of};
@@ -10,6 +11,9 @@ use crate::LINE;
 use arrayvec::ArrayString;
 use diagnostics::I2cDiagnosticKind as Kind;
 use itoa::Buffer;
+
+// The register that a byte not modelled is written to: the enum of the registers is of a crate that this one does not use.
+const CONTROL: u8 = 0x0E;
 
 // A line, or what there is of it so far.
 pub(crate) type Line = ArrayString<LINE>;
@@ -24,7 +28,8 @@ pub(crate) fn push_decimal(line: &mut Line, n: u64)
     line.push_str(Buffer::new().format(n));
 }
 
-// A hexadecimal digit, upper case.
+// A hexadecimal digit, upper case. `char::from_digit` gives lower case, and an `Option`; with both undone it proves, and takes
+// a third more instructions.
 #[tactic(auto, unfolding(crate::specs::Text::hex_digit))]
 fn hex_digit(d: u8) -> char
     requires { d < 16 }
@@ -91,7 +96,7 @@ pub(crate) fn push_columns(line: &mut Line, kind: Kind)
     ensures len { array_string_len line.new ≡ array_string_len line.old + 5 }
 {
     match kind {
-        Kind::NotModelled { value } => push_register(line, 0x0E, Some(value)),
+        Kind::NotModelled { value } => push_register(line, CONTROL, Some(value)),
         Kind::ReadOnly { register } | Kind::NoSuchRegister { register } => {
             push_register(line, register, None)
         }

@@ -37,8 +37,8 @@ pub fn dropped_line(out: &mut [u8], at: usize, count: u64) -> usize
     append(out, at, &dropped(count))
 }
 
-// The line of a refusal: its number, and the record that it is about, if there is one. The number comes from any of the error
-// types, by `Refusal::number`.
+// The line of a refusal: its number, and the record that it is about, if there is one. Any byte may be the number: a type of the
+// errors would ask more.
 pub fn refused_line(out: &mut [u8], at: usize, number: u8, record: Option<u64>) -> usize
     ensures { AppendedIn 48 (refused_line number (option_to_list «record»)) out.old at out.new result }
 {

@@ -5,6 +5,7 @@ use mathlib.Core.List.{List}
 use mathlib.Core.Path.{◌≡◌, refl, sym, ap}
 use lib.IntN.{ℤ}
 use native.Mathlib.Omega.{arith}
+use Rattle.std.specs.Prelude.{Result, Ok, Err, IsErrAnd}
 use Rattle.refusals.specs.Numbered.{Numbered, accepted, refused, and_then, unless, Row, refused_by}
 
 module _ (v : Numbered (Unit {0})) where
@@ -42,3 +43,8 @@ by_accepted (refused number values) a w e = never (sym e)
 pub by_refused : {A : Type 0} (v : Numbered (Unit {0})) (a : A) (r : Row) → refused_by r ≡ and_then v (accepted a) → v ≡ refused_by r
 by_refused (accepted u) a r e = never e
 by_refused (refused number values) a r e = sym (ap again e)
+
+-- a `Result` that is an error, which is `e`: what the exit of a `?` returns
+pub error_is : {A E : Type 0} (r : Result A E) (e : E) → IsErrAnd r (λ d. d ≡ e) → r ≡ Err e
+error_is (Ok a) e h = absurd h
+error_is (Err d) e h = ap (λ x. Err x) h

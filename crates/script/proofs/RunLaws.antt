@@ -15,6 +15,7 @@ use Rattle.refusals.proofs.Lossless.{answered_lossless}
 use Rattle.std.specs.Prelude.{if◌then◌else◌, Result}
 use Rattle.computed.proofs.Lossless.{lossless}
 use Rattle.diagnostics.specs.declared.I2cDiagnostic.{I2cDiagnostic}
+use Rattle.diagnostics.specs.declared.LentError.TheVariants.{NotSound, StoreLength}
 use Rattle.diagnostics.proofs.Counts.{stored_all_length}
 use Rattle.ds3231.specs.Calls.{sound, step, bus, verdict, store_by, store_after}
 use Rattle.ds3231.specs.declared.Ds3231.{Ds3231}
@@ -26,7 +27,7 @@ use Rattle.script_check.specs.declared.faults.ScriptFault.TheVariants.{TooLong, 
 use Rattle.script_check.specs.declared.faults.RecordFault.TheVariants.{Kind, Value, Padding, Falling}
 use Rattle.script_check.proofs.Lossless.{fault_back}
 use Rattle.script.specs.declared.errors.RunError.{RunError}
-use Rattle.script.specs.declared.errors.RunError.TheVariants.{NotSound, StoreLength, AnswersLength, Script}
+use Rattle.script.specs.declared.errors.RunError.TheVariants.{Lent, AnswersLength, Script}
 use Rattle.script.proofs.RunVerdicts.{power_on_is_sound}
 
 module _ (s : List ℕ) (h : Held) where
@@ -88,14 +89,14 @@ run_from_power_on_sound ran = run_keeps_sound ran power_on_is_sound
 -- the error that a row is of
 abbrev run_of : Row → RunError
 run_of r =
-    if eqb r.number 10 then NotSound
-    else if eqb r.number 11 then StoreLength
+    if eqb r.number 10 then Lent NotSound
+    else if eqb r.number 11 then Lent StoreLength
     else if eqb r.number 15 then AnswersLength
     else Script (fault_back r)
 
 run_back : (e : RunError) → run_of (run_row e) ≡ e
-run_back NotSound = refl
-run_back StoreLength = refl
+run_back (Lent NotSound) = refl
+run_back (Lent StoreLength) = refl
 run_back AnswersLength = refl
 run_back (Script TooLong) = refl
 run_back (Script NotWhole) = refl

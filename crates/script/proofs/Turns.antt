@@ -14,13 +14,13 @@ use Rattle.diagnostics.specs.Reports.{stored_all}
 use Rattle.diagnostics.specs.declared.Diagnostics.{Diagnostics}
 use Rattle.diagnostics.specs.declared.I2cDiagnostic.{I2cDiagnostic}
 use Rattle.diagnostics.proofs.Counts.{stored_all_length}
-use Rattle.ds3231.specs.Calls.{sound, bus, step, step_chip, chip_by, store_by, answered_by}
+use Rattle.ds3231.specs.Calls.{sound, reply_byte, bus, step, step_chip, chip_by, store_by, answered_by}
 use Rattle.ds3231.specs.declared.Ds3231.{Ds3231}
 use Rattle.ds3231.specs.declared.Event.{Event}
 use Rattle.ds3231_step.specs.Answers.{SteppedBy}
 use Rattle.ds3231_step.specs.declared.Stepped.{Stepped}
 use Rattle.script_check.specs.Records.{records_in}
-use Rattle.script.specs.Runs.{Held, held_at, answers_to, answer_at, answer_byte, reply_byte, event_of, run_verdict, Ran}
+use Rattle.script.specs.Runs.{Held, held_at, answers_to, answer_at, answer_byte, event_of, run_verdict, Ran}
 use Rattle.std.specs.Prelude.{Ok, option_to_list, Option, Some, None, MatchOption, IsSomeAnd}
 use Rattle.diagnostics.specs.ByValue.{posted}
 use Rattle.diagnostics.specs.declared.Posting.{Posting}

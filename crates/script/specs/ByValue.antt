@@ -1,4 +1,4 @@
--- Need not be believed: the promises of functions that are no calls of document 01; `event_lines` of script_listing/src/lib.rt consumes `fields_at`. Assumes nothing.
+-- Need not be believed: the promises of functions that are no calls of document 01; `event_lines` of script_listing/src/lib.rt consumes `fields_of`. Assumes nothing.
 use Rattle.computed.specs.Prelude.{ℕ, List, ltb}
 use Rattle.std.specs.Prelude.{if◌then◌else◌}
 use Rattle.script_check.specs.Records.{instant_of, kind_of, value_of, records_in}

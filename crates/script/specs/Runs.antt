@@ -2,18 +2,16 @@
 use Rattle.computed.specs.Prelude.{ℕ, zero, suc, not, List, [], eqb, length, replicate, nat_abs}
 use Rattle.std.specs.Prelude.{◌+◌, ◌*◌, ◌/◌, ◌%◌, ◌∷◌, ◌++◌, ◌≡◌, if◌then◌else◌, Result, Ok, Err}
 use Rattle.refusals.specs.Numbered.{Numbered, accepted, refused, and_then, unless, Row, answered}
+use Rattle.diagnostics.specs.Lent.{lent_row}
 use Rattle.diagnostics.specs.Reports.{unwritten}
 use Rattle.diagnostics.specs.declared.I2cDiagnostic.{I2cDiagnostic}
-use Rattle.diagnostics.specs.declared.LentError.{LentError}
-use Rattle.diagnostics.specs.declared.LentError.TheVariants as Lent
-use Rattle.ds3231.specs.Calls.{sound, chip_on, default_config, Answered, replied, copied, bus, chip_after, store_after, answer}
+use Rattle.ds3231.specs.Calls.{sound, chip_on, default_config, Answered, replied, copied, reply_byte, bus, chip_after, store_after, answer}
 use Rattle.ds3231.specs.declared.Ds3231.{Ds3231}
 use Rattle.ds3231.specs.declared.Event.{Event}
 use Rattle.ds3231.specs.declared.Event.TheVariants.{Start, Write, Read, Stop}
-use Rattle.ds3231.specs.declared.Reply as Reply
 use Rattle.script_check.specs.Records.{instant_of, kind_of, value_of, records_in, checked_length, checked_from, fault_row}
 use Rattle.script.specs.declared.errors.RunError.{RunError}
-use Rattle.script.specs.declared.errors.RunError.TheVariants.{NotSound, StoreLength, AnswersLength, Script}
+use Rattle.script.specs.declared.errors.RunError.TheVariants.{Lent, AnswersLength, Script}
 use Rattle.script.specs.declared.runs.RunOutcome.{RunOutcome}
 
 -- 'Script answers': START address times 2 plus read bit, WRITE data, READ 1 or 0 for the master's acknowledge
@@ -23,12 +21,6 @@ event_of s i =
     else if eqb (kind_of s i) 1 then Write (value_of s i) (instant_of s i)
     else if eqb (kind_of s i) 2 then Read (eqb (value_of s i) 1) (instant_of s i)
     else Stop (instant_of s i)
-
--- 'Script answers': START and WRITE 1 or 0, READ the byte, STOP 0
-abbrev pub reply_byte : Reply.Reply → ℕ
-reply_byte (Reply.TheVariants.Acknowledge b) = if b then 1 else 0
-reply_byte (Reply.TheVariants.Byte b) = b
-reply_byte Reply.TheVariants.Done = 0
 
 -- no record takes, and no event of a run is refused (`none_refused` in proofs/RunLaws.antt): the 0 that stands for those is left free
 abbrev pub answer_byte : Numbered Answered → ℕ
@@ -58,15 +50,9 @@ answers_to s h (suc n) = answers_to s h n ++ (answer_at s h n ∷ [])
 
 -- 'The table of refusals': the row of why a run is refused
 abbrev pub run_row : RunError → Row
-run_row NotSound = record { number = 10; values = [] }
-run_row StoreLength = record { number = 11; values = [] }
+run_row (Lent e) = lent_row e
 run_row AnswersLength = record { number = 15; values = [] }
 run_row (Script f) = fault_row f
-
--- the refusal of a chip or a store, as one of a run
-abbrev pub lent_refusal : LentError → RunError
-lent_refusal Lent.NotSound = NotSound
-lent_refusal Lent.StoreLength = StoreLength
 
 -- 'The table of refusals': 14, 13, 15, then record by record 16 to 19; `room` is how many answer bytes are lent
 unfoldable pub checked_run : List ℕ → ℕ → Numbered (Unit {0})

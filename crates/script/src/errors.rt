@@ -1,8 +1,8 @@
 // Why a run of a script is refused, by the number in the table of refusals.
 ghost use Rattle.std.specs.Prelude.{◌≡◌};
 ghost use Rattle.script_check.specs.Records.{record_named};
-ghost use Rattle.script.specs.Runs.{run_row, lent_refusal};
-ghost use Rattle.script.specs.declared.errors.RunError.TheVariants.{Script as OfScript};
+ghost use Rattle.script.specs.Runs.{run_row};
+ghost use Rattle.script.specs.declared.errors.RunError.TheVariants.{Lent as OfLent, Script as OfScript};
 
 use diagnostics::LentError;
 use refusals::Refusal;
@@ -12,13 +12,11 @@ use thiserror::Error;
 // Why a run is refused.
 #[derive(Clone, Copy, Debug, PartialEq, Eq, Error)]
 pub enum RunError {
-    #[error("the chip is not sound")]
-    NotSound,
-    #[error("the store does not have 256 records")]
-    StoreLength,
+    #[error(transparent)]
+    Lent(LentError),
     #[error("not one answer byte is lent for each record")]
     AnswersLength,
-    #[error("{0}")]
+    #[error(transparent)]
     Script(ScriptFault),
 }
 
@@ -28,7 +26,7 @@ impl RunError {
         ensures { result ≡ record_named (run_row self.now).values }
     {
         match self {
-            RunError::NotSound | RunError::StoreLength | RunError::AnswersLength => None,
+            RunError::Lent(_) | RunError::AnswersLength => None,
             RunError::Script(fault) => fault.record(),
         }
     }
@@ -39,25 +37,23 @@ impl Refusal for RunError {
 
     fn number(&self) -> u8 {
         match self {
-            RunError::NotSound => 10,
-            RunError::StoreLength => 11,
+            RunError::Lent(error) => error.number(),
             RunError::AnswersLength => 15,
             RunError::Script(fault) => fault.number(),
         }
     }
 }
 
+// Written out: a `From` that `#[from]` derives has no contract, and of the error that `?` then answers nothing is known.
 impl From<LentError> for RunError {
-    ghost from_gives = { λ d e. e ≡ lent_refusal d };
+    ghost from_gives = { λ d e. e ≡ OfLent d };
 
     fn from(error: LentError) -> RunError {
-        match error {
-            LentError::NotSound => RunError::NotSound,
-            LentError::StoreLength => RunError::StoreLength,
-        }
+        RunError::Lent(error)
     }
 }
 
+// Written out: a `From` that `#[from]` derives has no contract, and of the error that `?` then answers nothing is known.
 impl From<ScriptFault> for RunError {
     ghost from_gives = { λ f e. e ≡ OfScript f };
 

@@ -1,8 +1,8 @@
-// The bus event of a record, and the answer byte of a reply.
+// The bus event of a record.
 ghost use Rattle.std.specs.Prelude.{◌≡◌};
-ghost use Rattle.script.specs.Runs.{event_of, reply_byte};
+ghost use Rattle.script.specs.Runs.{event_of};
 
-use ds3231::{Event, Reply};
+use ds3231::Event;
 use script_check::{Kind, RECORD, instant, kind, value};
 
 // The event of a record.
@@ -25,16 +25,5 @@ pub(crate) fn event(bytes: [u8; RECORD]) -> Event
         },
         // A run has none above 3.
         Ok(Kind::Stop) | Err(_) => Event::Stop { at },
-    }
-}
-
-// START and WRITE 1 or 0, READ the byte, STOP 0.
-pub(crate) fn answer_byte(reply: Reply) -> u8
-    ensures { result ≡ reply_byte reply }
-{
-    match reply {
-        Reply::Acknowledge(acknowledged) => u8::from(acknowledged),
-        Reply::Byte(byte) => byte,
-        Reply::Done => 0,
     }
 }

@@ -5,8 +5,8 @@ ghost use Rattle.ds3231_chip.specs.Answers.{lent_verdict};
 ghost use Rattle.script.specs.Runs.{clockrun_held, run_row, checked_run, run_verdict, Ran, RanByValue};
 
 use crate::RunError;
-use crate::events::{answer_byte, event};
-use diagnostics::{I2cDiagnostic, MAX_DIAGNOSTICS, Posting, post};
+use crate::events::event;
+use diagnostics::{I2cDiagnostic, MAX_DIAGNOSTICS, post};
 use ds3231::{Ds3231, Ds3231Config};
 use ds3231_chip::{checked_lent, power_on};
 use ds3231_step::step;
@@ -72,7 +72,8 @@ fn checked(chip: Ds3231, len: usize, script: &[u8], room: usize) -> Result<(), R
     Ok(())
 }
 
-// Every record's event in turn, where nothing refuses the run.
+// Every record's event in turn, where nothing refuses the run. Each answer is found by its record's number: with `zip`, setting the
+// time is at 0.91 of the Rust where chip and store are read.
 fn events(
     mut chip: Ds3231,
     mut records: [I2cDiagnostic; 256],
@@ -84,11 +85,11 @@ fn events(
 {
     let (chunks, _) = script.as_chunks::<RECORD>();
     for (i, bytes) in chunks.iter().enumerate() {
-        let slot = chip.diagnostics.waiting;
+        let counts = chip.diagnostics;
         let stepped = step(chip, event(*bytes));
         chip = stepped.chip;
-        answers[i] = answer_byte(stepped.reply);
-        let posting = stepped.report.map(|record| Posting { slot, record });
+        answers[i] = u8::from(stepped.reply);
+        let posting = stepped.report.map(|record| counts.posting(record));
         post(&mut records, posting);
     }
     RunOutcome { chip, records }

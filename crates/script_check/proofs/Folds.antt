@@ -1,7 +1,7 @@
 -- Document 02, Order 3: the check as a fold of the judge, with the last instant as a running number, has the answers of the definition.
 -- Assumes nothing.
 use Rattle.std.proofs.Common.{◌≡◌, ℕ, zero, suc, ◌+◌, ◌-◌, ◌*◌, ◌≤◌, ◌<◌, List, [], length, get_or, drop, ℤ, refl, sym, ap, ◌∙◌, add-one, arith, length-drop, Result, Ok, Err, MatchResult, IsErrAnd}
-use Rattle.std.proofs.lemmas.Result.{err_from_is_err_and}
+use Rattle.refusals.proofs.Checks.{error_is}
 use Rattle.std.proofs.lemmas.List.{length-take-le, get_or-take, get_or-drop}
 use Rattle.std.proofs.lemmas.Bool.{lt-ltb}
 use Rattle.std.specs.Simd.{first_chunks}
@@ -105,7 +105,7 @@ folded_same s = ap (and_then (checked_length (length s))) (verdict_same s (recor
 -- a judgement of record i with its faults as the script's
 pub numbered : (i : ℕ) (r : Result ℕ RecordFault) (m : Result ℕ ScriptFault) → MatchResult r (λ at. m ≡ Ok at) (λ f. IsErrAnd m (λ d. d ≡ Record i f)) → answered fault_row m ≡ judgement_numbered i r
 numbered i (Ok at) m e = ap (answered fault_row) e
-numbered i (Err f) m e = let p : (d : ScriptFault) × (m ≡ Err d) × (d ≡ Record i f) = err_from_is_err_and m e in rw (p.1, p.2)
+numbered i (Err f) m e = ap (answered fault_row) (error_is m (Record i f) e)
 
 module _ (s : List ℕ) where
   -- after a refusal nothing is judged

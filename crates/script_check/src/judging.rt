@@ -11,7 +11,7 @@ pub fn judge(bytes: [u8; RECORD], last: u64) -> Result<u64, RecordFault>
     ensures { result ≡ judged bytes last }
 {
     let kind = Kind::try_from(records::kind(bytes))?;
-    let half = records::second_half(bytes);
+    let half = records::half::<1>(bytes);
     // Kind, value and padding in one comparison: above the kind's largest, either the value or the padding is bad.
     if half > kind.largest_half() {
         if kind.is_bad_value(records::value(bytes)) {

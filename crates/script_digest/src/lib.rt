@@ -13,7 +13,7 @@ use refusals::Refusal;
 use script::run_from_power_on;
 
 // Runs a script as `clock_script_run` does. The number is for tools/bench alone, which only needs every field of the chip
-// and of the store to be read: no contract fixes it.
+// and of the store to be read: no contract fixes it. The clause of the answers is that of `clock_script_run`, written out as there.
 pub fn clock_script_digest(script: &[u8], answers: &mut [u8]) -> u64
     ensures { answers.new ≡ unless (checked_run script.now (length answers.old)) (answers_to script.now clockrun_held (records_in script.now)) answers.old }
 {
@@ -23,7 +23,7 @@ pub fn clock_script_digest(script: &[u8], answers: &mut [u8]) -> u64
     }
 }
 
-// The number of a chip.
+// The number of a chip. std has no `From<usize>` for u64.
 fn chip_number(chip: Ds3231) -> u64 {
     let counts = chip.diagnostics;
     timing_number(chip.timing)
@@ -32,6 +32,7 @@ fn chip_number(chip: Ds3231) -> u64 {
         ^ counts.dropped
 }
 
+// A phase has no number but the one that `as` takes.
 fn timing_number(timing: Timing) -> u64 {
     let phase = timing.phase as u8;
     let pointer = timing.pointer.number();
@@ -87,7 +88,7 @@ fn store_number(records: [I2cDiagnostic; 256]) -> u64 {
     number
 }
 
-// A kind's place among the four, then its bytes.
+// A kind's place among the four, then its bytes: a variant that has bytes is not cast to a number.
 fn kind_number(kind: I2cDiagnosticKind) -> u64 {
     match kind {
         I2cDiagnosticKind::NotModelled { value } => seven([0, value, 0, 0, 0, 0, 0]),
@@ -97,7 +98,7 @@ fn kind_number(kind: I2cDiagnosticKind) -> u64 {
     }
 }
 
-// The number of seven bytes, lowest first.
+// The number of seven bytes, lowest first: `from_le_bytes` takes eight.
 fn seven(bytes: [u8; 7]) -> u64 {
     let [a, b, c, d, e, f, g] = bytes;
     u64::from_le_bytes([a, b, c, d, e, f, g, 0])

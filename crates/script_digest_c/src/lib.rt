@@ -1,5 +1,6 @@
 // The call of `script_digest` for `tools/bench`, as an archive: the export calls the function of its name there, and promises
 // the same.
+// A crate is a library or an archive, and tools/bench links an archive.
 #![tactic(auto)]
 
 ghost use Rattle.std.specs.Prelude.{◌≡◌, length};

@@ -1,4 +1,5 @@
 // What `clockrun` prints for a script, whole, made in a lent slice of bytes.
+// Script, answers and text are slices that the caller has, and go on as they are.
 // To read it: `specs/Listing.antt` has the listing of a script, or the line of its refusal; the lines are `listing`'s.
 #![tactic(auto)]
 
@@ -11,7 +12,7 @@ ghost use Rattle.script_listing.specs.Listing.{event_lines, ran_listing, listing
 use diagnostics::MAX_DIAGNOSTICS;
 use listing::{LINE, diagnostic_lines, dropped_line, event_line, header, refused_line};
 use refusals::Refusal;
-use script::{MAX_RECORDS, RECORD, RunOutcome, record_at, run_from_power_on};
+use script::{MAX_RECORDS, RECORD, Record, RunOutcome, run_from_power_on};
 
 // Room for every line of a script: the header, the events, the diagnostics and the dropped count.
 pub const LISTING: usize = LINE * (1 + MAX_RECORDS + MAX_DIAGNOSTICS + 1);
@@ -20,7 +21,7 @@ pub const LISTING: usize = LINE * (1 + MAX_RECORDS + MAX_DIAGNOSTICS + 1);
 pub const INPUT: usize = RECORD * MAX_RECORDS + 1;
 
 // The text of a script, in front of what stood behind it, where there is room for any script's: else nothing. The answers
-// stand in the first bytes of a local array.
+// stand in the first bytes of a local array. It answers how long the text is: a part of the slice for an answer would keep the slice lent.
 pub fn listing(script: &[u8], out: &mut [u8]) -> usize
     ensures { Printed (listing_of script.now) out.old out.new result }
 {
@@ -37,8 +38,7 @@ pub fn listing(script: &[u8], out: &mut [u8]) -> usize
 pub fn input_listing(input: [u8; INPUT], n: usize, out: &mut [u8]) -> usize
     ensures { ListedInput input n out.old out.new result }
 {
-    let n = within(n, &input);
-    listing(&input[..n], out)
+    listing(front(n, &input), out)
 }
 
 // How many answers a script of `len` bytes has, if it is not too long.
@@ -56,6 +56,7 @@ fn listed(script: &[u8], answers: &mut [u8], out: &mut [u8]) -> usize
     match run_from_power_on(script, answers) {
         Ok(end) => ran(script, answers, end, out),
         Err(error) => {
+            // std has no `From<usize>` for u64.
             let record = error.record().map(|record| record as u64);
             refused_line(out, 0, error.number(), record)
         }
@@ -75,24 +76,23 @@ fn ran(script: &[u8], answers: &[u8], end: RunOutcome, out: &mut [u8]) -> usize
     dropped_line(out, next, counts.dropped)
 }
 
-// The lines of the events.
+// The lines of the events, one for each record and its answer.
 fn event_lines(script: &[u8], answers: &[u8], out: &mut [u8], at: usize) -> usize
     requires { (answers.now ≡ answers_to script.now clockrun_held (records_in script.now)) × (at + 48 * records_in script.now ≤ length out.old) }
     ensures { Appended (event_lines script.now (records_in script.now)) out.old at out.new result }
 {
     let mut next = at;
-    for (i, answer) in answers.iter().enumerate() {
-        let event = record_at(script, i);
+    let (records, _) = script.as_chunks::<RECORD>();
+    for (bytes, answer) in records.iter().zip(answers) {
+        let event = Record::from(*bytes);
         next = event_line(out, next, event.at, event.kind, event.value, *answer);
     }
     next
 }
 
-// A number of the bytes of a slice: `n`, or all of them.
-pub fn within(n: usize, bytes: &[u8]) -> usize
-    ensures value { result ≡ min n (length bytes.now) }
-    ensures in_bounds { result ≤ length bytes.now }
-    ensures prefix_len { result ≡ length (take result bytes.now) }
+// The first `n` bytes of a slice, or all of them.
+pub fn front(n: usize, bytes: &[u8]) -> &[u8]
+    ensures { result.now ≡ take n bytes.now }
 {
-    n.min(bytes.len())
+    bytes.get(..n).unwrap_or(bytes)
 }

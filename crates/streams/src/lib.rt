@@ -1,6 +1,7 @@
 // Input and output, whole: calls of `read` and `write` until nothing is left to move, or until one moves nothing.
 // To read it: `specs/Transfers.antt` has how many bytes were moved. The clauses `bytes` say which bytes were moved, for a
 // reader or a writer whose bytes are known, as one over memory; no contract can say which bytes the system moves.
+// The loops count by hand: std's `read_exact` and `write_all` do not say how many bytes moved before an end or a failure.
 // A loop that takes the step as a closure is as long as both loops here, and needs a contract on chains of calls.
 #![tactic(auto)]
 
@@ -55,10 +56,7 @@ pub fn read_full<R: Read>(reader: &mut R, input: &mut [u8]) -> usize
     ensures in_bounds { result ≤ length input.new }
     ensures bytes { Consumes (R.remaining reader.old) (R.remaining reader.new) (take result input.new) }
 {
-    match read_input(reader, input) {
-        Ok(count) => count,
-        Err(error) => error.count,
-    }
+    read_input(reader, input).unwrap_or_else(|error| error.count)
 }
 
 // Writes all of `output`.

@@ -5,27 +5,30 @@
 
 mod blocks;
 
+// The kind of a block of scripts. A type of the two kinds would be made and matched in one place.
 const SCRIPTS: u8 = 1;
 
 fn main(rt: HostRuntime) {
     let mut stdin = rt.stdin();
     let mut block = [0u8; 65_536];
-    for _ in 0..4_294_967_295u32 {
-        let n = blocks::read(&mut stdin, &mut block);
-        if n == 0 {
-            return;
+    // A bound, since a program has to end.
+    for _ in 0..u32::MAX {
+        match blocks::read(&mut stdin, &mut block) {
+            None | Some([]) => return,
+            Some(block) => answer(&rt, block),
         }
-        answer(&rt, &block[..n]);
     }
 }
 
 // Prints the answers of a block's lists of calls, or the listings of its scripts.
 fn answer(rt: &impl Print, block: &[u8]) {
-    if let Some((kind, lists)) = block.split_first() {
-        if *kind == SCRIPTS {
-            test_replaying_scripts::replay(rt, lists);
-        } else {
+    match block {
+        [SCRIPTS, scripts @ ..] => {
+            test_replaying_scripts::replay(rt, scripts);
+        }
+        [_, lists @ ..] => {
             test_replaying::replay(rt, lists);
         }
+        [] => {}
     }
 }

@@ -8,6 +8,7 @@ use ds3231::{Ds3231, Ds3231Config, Reply};
 use ds3231_bus::TakeError;
 use ds3231_chip::{no_chip, power_on};
 use refusals::Refusal;
+use std::fmt::Display;
 
 // The instant in a record that no report was written to.
 const NO_REPORT: u64 = 1_000;
@@ -66,23 +67,23 @@ fn counts_of(rt: &impl Print, session: &Whole) {
 }
 
 fn print_counts(rt: &impl Print, counts: Diagnostics) {
-    line(rt, "waiting", counts.waiting as u64);
+    line(rt, "waiting", counts.waiting);
     line(rt, "dropped", counts.dropped);
 }
 
 // What cannot be written is lost.
-fn line(rt: &impl Print, word: &str, number: u64) {
+fn line(rt: &impl Print, word: &str, number: impl Display + Drop) {
     let _ = println!(rt; "{word},{number}");
 }
 
 fn refused(rt: &impl Print, error: &impl Refusal) {
-    line(rt, "refused", u64::from(error.number()));
+    line(rt, "refused", error.number());
 }
 
 // Takes the records that wait, and prints how many there are.
 fn take(rt: &impl Print, session: &mut Whole, out: &mut [I2cDiagnostic]) {
     match session.take(out) {
-        Ok(count) => line(rt, "taken", count as u64),
+        Ok(count) => line(rt, "taken", count),
         Err(error) => refused(rt, &error),
     }
 }
@@ -135,8 +136,8 @@ fn refused_call(rt: &impl Print, mut session: Whole) {
 
 fn print_answer(rt: &impl Print, answer: Result<Reply, LentError>) {
     match answer {
-        Ok(Reply::Acknowledge(acknowledged)) => line(rt, "acknowledge", u64::from(acknowledged)),
-        Ok(Reply::Byte(byte)) => line(rt, "byte", u64::from(byte)),
+        Ok(Reply::Acknowledge(acknowledged)) => line(rt, "acknowledge", u8::from(acknowledged)),
+        Ok(Reply::Byte(byte)) => line(rt, "byte", byte),
         Ok(Reply::Done) => line(rt, "done", 0),
         Err(error) => refused(rt, &error),
     }
@@ -145,10 +146,7 @@ fn print_answer(rt: &impl Print, answer: Result<Reply, LentError>) {
 // 300 reports by `report` itself; then one with counts of which 257 wait.
 fn reports(rt: &impl Print) {
     let mut reporting = Reporting {
-        counts: Diagnostics {
-            waiting: 0,
-            dropped: 0,
-        },
+        counts: Diagnostics::default(),
         store: [unwritten(); 256],
     };
     for at in 0..300u64 {

@@ -1,63 +1,76 @@
-// A record of sixteen bytes, and what stands in it. Numbers have the lowest byte first.
-ghost use Rattle.std.specs.Prelude.{◌≡◌, ◌+◌, ◌≤◌, length};
-
+// A record of sixteen bytes, and the call that stands in it.
 use calendar::DateTime;
+use ds3231::Ds3231Config;
+use script_check::{RECORD, instant};
 
-// The bytes of a record.
-pub(crate) const RECORD: usize = 16;
-
-#[derive(Clone, Copy)]
-pub(crate) struct Record {
-    bytes: [u8; RECORD],
+// A recorded call, with what it is passed. `at` is its instant.
+pub(crate) enum Call {
+    Start { address: u8, read: bool, at: u64 },
+    Write { byte: u8, at: u64 },
+    Read { acknowledged: bool, at: u64 },
+    Stop { at: u64 },
+    PowerOn(Ds3231Config),
+    Register { number: u8, at: u64 },
+    Now { at: u64 },
+    Dropped,
+    Take,
+    Validate(DateTime),
+    FromSeconds(u64),
+    Seconds(DateTime),
+    Weekday(DateTime),
 }
 
-impl Record {
-    // The record at `at`.
-    pub(crate) fn at(input: &[u8], at: usize) -> Record
-        requires { at + 16 ≤ length input.now }
-    {
-        let mut bytes = [0; RECORD];
-        bytes.copy_from_slice(&input[at..at + RECORD]);
-        Record { bytes }
-    }
-
-    pub(crate) fn kind(self) -> u8 {
-        self.bytes[8]
-    }
-
-    // A START's address, a WRITE's byte, a READ's acknowledge, a register's number.
-    pub(crate) fn byte(self) -> u8 {
-        self.bytes[9]
-    }
-
-    pub(crate) fn read_bit(self) -> bool {
-        self.bytes[10] == 1
-    }
-
-    // Whether a power-on's oscillator had stopped.
-    pub(crate) fn stopped(self) -> bool {
-        self.bytes[7] == 1
-    }
-
-    // The quarters of a degree of a power-on.
-    pub(crate) fn quarters(self) -> i16 {
-        i16::from_le_bytes([self.bytes[10], self.bytes[11]])
-    }
-
-    // The instant or the seconds.
-    pub(crate) fn number(self) -> u64 {
-        let b = self.bytes;
-        u64::from_le_bytes([b[0], b[1], b[2], b[3], b[4], b[5], b[6], b[7]])
-    }
-
-    pub(crate) fn time(self) -> DateTime {
-        DateTime {
-            year: u16::from_le_bytes([self.bytes[0], self.bytes[1]]),
-            month: self.bytes[2],
-            day: self.bytes[3],
-            hour: self.bytes[4],
-            minute: self.bytes[5],
-            second: self.bytes[6],
+// By the kinds of vectors/README.md. A kind above the last is a weekday. `at` is the instant or the seconds.
+impl From<[u8; RECORD]> for Call {
+    fn from(record: [u8; RECORD]) -> Call {
+        let at = instant(record);
+        match record[8] {
+            0 => Call::Start {
+                address: record[9],
+                read: record[10] == 1,
+                at,
+            },
+            1 => Call::Write {
+                byte: record[9],
+                at,
+            },
+            2 => Call::Read {
+                acknowledged: record[9] == 1,
+                at,
+            },
+            3 => Call::Stop { at },
+            4 => Call::PowerOn(config(record)),
+            5 => Call::Register {
+                number: record[9],
+                at,
+            },
+            6 => Call::Now { at },
+            7 => Call::Dropped,
+            8 => Call::Take,
+            9 => Call::Validate(time(record)),
+            10 => Call::FromSeconds(at),
+            11 => Call::Seconds(time(record)),
+            _ => Call::Weekday(time(record)),
         }
+    }
+}
+
+fn time(record: [u8; RECORD]) -> DateTime {
+    let [year_low, year_high, month, day, hour, minute, second, ..] = record;
+    DateTime {
+        year: u16::from_le_bytes([year_low, year_high]),
+        month,
+        day,
+        hour,
+        minute,
+        second,
+    }
+}
+
+fn config(record: [u8; RECORD]) -> Ds3231Config {
+    Ds3231Config {
+        start: time(record),
+        oscillator_stopped: record[7] == 1,
+        temperature_quarters: i16::from_le_bytes([record[10], record[11]]),
     }
 }

@@ -1,6 +1,10 @@
 // The text of answers. What cannot be written is lost.
 use calendar::{DateTime, DateTimeError};
+use diagnostics::LentError;
+use ds3231::Reply;
+use ds3231_chip::Ds3231ConfigError;
 use refusals::Refusal;
+use std::fmt::Display;
 
 pub(crate) fn bytes(rt: &impl Print, text: &[u8]) {
     let _ = rt.write_all(text);
@@ -19,13 +23,8 @@ pub(crate) fn ok(rt: &impl Print) {
     let _ = print!(rt; "ok");
 }
 
-pub(crate) fn decimal(rt: &impl Print, number: u64) {
+pub(crate) fn decimal(rt: &impl Print, number: impl Display + Drop) {
     let _ = rt.print(number);
-}
-
-// `01` or `00`.
-pub(crate) fn bit(rt: &impl Print, is_one: bool) {
-    hex(rt, u8::from(is_one));
 }
 
 // Two hexadecimal digits.
@@ -38,14 +37,41 @@ pub(crate) fn time(rt: &impl Print, time: DateTime) {
     let _ = rt.print(time);
 }
 
+// An answer, or its refusal.
+pub(crate) fn answer<T, E: Refusal + Drop, F: FnOnce(T) + Drop>(
+    rt: &impl Print,
+    answer: Result<T, E>,
+    print: F,
+)
+    requires { (value : T) → F.pre print value }
+{
+    match answer {
+        Ok(value) => print(value),
+        Err(error) => refused(rt, &error),
+    }
+}
+
+// The answer to a bus call.
+pub(crate) fn reply(rt: &impl Print, reply: Result<Reply, LentError>) {
+    answer(rt, reply, |reply| hex(rt, u8::from(reply)));
+}
+
 // A refusal: `refused,8`.
-pub(crate) fn refused(rt: &impl Print, number: u8) {
+pub(crate) fn refused(rt: &impl Print, error: &impl Refusal) {
+    refused_by_number(rt, error.number());
+}
+
+pub(crate) fn refused_by_number(rt: &impl Print, number: u8) {
     let _ = print!(rt; "refused,{number}");
 }
 
 // A refused time: `refused,3,2100,2,29`.
 pub(crate) fn error(rt: &impl Print, error: DateTimeError) {
-    refused(rt, error.number());
+    refused(rt, &error);
+    values(rt, error);
+}
+
+fn values(rt: &impl Print, error: DateTimeError) {
     let _ = match error {
         DateTimeError::Year(year) => print!(rt; ",{year}"),
         DateTimeError::Month(month) => print!(rt; ",{month}"),
@@ -56,7 +82,13 @@ pub(crate) fn error(rt: &impl Print, error: DateTimeError) {
     };
 }
 
-// A refused temperature: `refused,7,-41`.
-pub(crate) fn quarters_refused(rt: &impl Print, quarters: i16) {
-    let _ = print!(rt; "refused,7,{quarters}");
+// A refused power-on: that of its time, or `refused,7,-41` for a temperature.
+pub(crate) fn not_on(rt: &impl Print, error: Ds3231ConfigError) {
+    refused(rt, &error);
+    match error {
+        Ds3231ConfigError::Start(error) => values(rt, error),
+        Ds3231ConfigError::Temperature(quarters) => {
+            let _ = print!(rt; ",{quarters}");
+        }
+    }
 }

@@ -2,44 +2,42 @@
 // To read it: `replay` is the loop, `turn` one script.
 #![tactic(auto)]
 
-ghost use Rattle.std.specs.Prelude.{◌≡◌, ◌<◌, ◌≤◌, length};
+ghost use Rattle.std.specs.Prelude.{◌≡◌, ◌<◌, length};
 
-use script_listing::{LISTING, listing, within};
+use script_listing::{LISTING, front, listing};
 
-// The bytes of a script's length.
-const HEADER: usize = 4;
-
-// Runs the scripts of `input` to its end, and answers where that is. A turn moves by a script's length, which stands before it.
+// Runs the scripts of `input` to its end, and answers where that is.
+// The loop counts them, since a `for` over numbers has no end at the input's. That of lists of calls is alike: one for both would take
+// as parameters the unit of a length, the line before and what is done with a piece that is cut.
 pub fn replay(rt: &impl Print, input: &[u8]) -> usize
     ensures { result ≡ length input.now }
 {
-    let mut at = 0;
+    let mut rest = input;
     let mut number = 0;
-    while at < input.len() {
-        at = turn(rt, input, at, number);
+    while !rest.is_empty() {
+        rest = turn(rt, rest, number);
         number = number.wrapping_add(1);
     }
-    at
+    input.len() - rest.len()
 }
 
-// One script of `input`; where it is not whole, the rest of it.
-fn turn(rt: &impl Print, input: &[u8], at: usize, number: u64) -> usize
-    requires { at < length input.now }
-    ensures { (at < result) × (result ≤ length input.now) }
+// The first script of `input`: its length in four bytes, then its bytes. Answers what comes after it, and nothing where it
+// is not whole.
+fn turn<'a>(rt: &impl Print, input: &'a [u8], number: u64) -> &'a [u8]
+    requires { 0 < length input.now }
+    ensures { length result.now < length input.now }
 {
-    let rest = input.len() - at;
-    if rest < HEADER {
-        return input.len();
-    }
-    let length = u32::from_le_bytes([input[at], input[at + 1], input[at + 2], input[at + 3]]);
-    let length = length as usize;
-    let from = at + HEADER;
-    if input.len() - from < length {
-        return input.len();
-    }
+    let Some((header, rest)) = input.split_first_chunk::<4>() else {
+        return &[];
+    };
+    // std has no `From<u32>` for usize.
+    let length = u32::from_le_bytes(*header) as usize;
+    let Some((script, rest)) = rest.split_at_checked(length) else {
+        return &[];
+    };
     title(rt, number);
-    print(rt, &input[from..from + length]);
-    from + length
+    print(rt, script);
+    rest
 }
 
 // `script,0`. What cannot be written is lost.
@@ -51,6 +49,5 @@ fn title(rt: &impl Print, number: u64) {
 fn print(rt: &impl Print, script: &[u8]) {
     let mut text = [0u8; LISTING];
     let n = listing(script, &mut text);
-    let n = within(n, &text);
-    let _ = rt.write_all(&text[..n]);
+    let _ = rt.write_all(front(n, &text));
 }

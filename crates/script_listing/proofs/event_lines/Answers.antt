@@ -1,17 +1,33 @@
 -- `script_listing::event_lines` meets its contract.
-use native.Mathlib.Nat.{le_antisymm}
-use native.Mathlib.Omega.{arith}
+use Rattle.std.proofs.Common.{◌≡◌, ◌∙◌, ◌<◌, ◌/◌, [], length, rules, arith}
+use Rattle.std.proofs.lemmas.Slice.Zip.{zip_turn, zip_end}
+use Rattle.std.specs.Simd.{first_chunks}
+use lib.ListN.{length-append}
+use Rattle.script_check.specs.Records.{records_in}
+use Rattle.script_check.proofs.Bytes.{chunk}
+use Rattle.script_check.proofs.Folds.{record_own}
+use Rattle.script.specs.ByValue.{fields_at}
+use Rattle.script.proofs.Own.{fields_own}
 use Rattle.script_listing.proofs.Events.{begins, turn}
 use Rattle.script_listing.proofs.event_lines.Goals as goal
 
-pub loop-i-init : goal.loop-i-init
-loop-i-init c = begins _ _ _ _ c.requires.0
+pub loop-bytes-init : goal.loop-bytes-init
+loop-bytes-init c = begins _ _ _ _ c.requires.0
 
-pub loop-i-preserved : goal.loop-i-preserved
-loop-i-preserved c =
-    turn c.requires.0 c.requires.1 c.loop-i-test.true c.loop-i.invariant c.event_line-next.auto.out c.record_at-event.result c.record_at-event.ensures
-    c.event_line-next.ensures
+pub loop-bytes-preserved : goal.loop-bytes-preserved
+loop-bytes-preserved c =
+    let s = c.args.script.now in
+    let l = c.loop-bytes in
+    let i = length l.yielded in
+    let z = zip_turn (first_chunks 16 (length s / 16) s) c.args.answers.now l.yielded c.into_iter-bytes-iterator.result l.bytes-iterator c.next.new.self _ (search rules) (search rules) l.yielded_by _ c.in-Some.is c.next.ensures.steps in
+    let h : i < records_in s = omega (arith, l.invariant.count, z.1) in
+    let e : c.from-event.result ≡ fields_at s i = c.from-event.ensures ∙ rw (z.2 [], chunk 16 (length s / 16) s i [] h, ← record_own s i h) (fields_own s i) in
+    rw (length-append l.yielded _) (turn c.requires.0 c.requires.1 z.1 l.invariant c.event_line-next.auto.out _ e (rw (z.3 0) at c.event_line-next.ensures))
 
 pub returns : goal.returns
 returns c =
-    rw (le_antisymm c.loop-i.invariant.up (omega (arith, c.loop-i.invariant.count, c.loop-i-test.false))) at c.loop-i.invariant.written
+    let s = c.args.script.now in
+    let l = c.loop-bytes in
+    let n = zip_end (first_chunks 16 (length s / 16) s) c.args.answers.now l.yielded c.into_iter-bytes-iterator.result l.bytes-iterator c.next.new.self _ (search rules) (search rules) l.yielded_by c.in-None.is c.next.ensures.steps in
+    let m : length l.yielded ≡ records_in s = search (rules, arith) in
+    rw m at l.invariant.written

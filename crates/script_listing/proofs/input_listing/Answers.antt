@@ -4,5 +4,4 @@ use Rattle.script_listing.proofs.Input.{input_listed}
 use Rattle.script_listing.proofs.input_listing.Goals as goal
 
 pub returns : goal.returns
-returns c =
-    input_listed c.args.input c.args.n _ c.args.out.now (search rules) c.within-n.ensures.value c.listing.ensures
+returns c = input_listed c.args.input c.args.n c.args.out.now (search rules) c.front.ensures c.listing.ensures

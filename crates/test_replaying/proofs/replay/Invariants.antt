@@ -1,8 +1,8 @@
-use Rattle.std.proofs.Common.{◌≤◌, ◌-◌, length}
+use Rattle.std.proofs.Common.{◌≤◌, length}
 use Rattle.test_replaying.proofs.replay.Given as goal
 
-abbrev pub invariant-loop-run : goal.invariant-loop-run
-invariant-loop-run g l = l.run.at ≤ length l.input
+abbrev pub invariant-loop-session : goal.invariant-loop-session
+invariant-loop-session g l = length l.rest ≤ length l.input
 
-abbrev pub decreases-loop-run : goal.decreases-loop-run
-decreases-loop-run g l = length l.input - l.run.at
+abbrev pub decreases-loop-session : goal.decreases-loop-session
+decreases-loop-session g l = length l.rest

@@ -1,6 +1,7 @@
 -- `ds3231_chip::power::power_on` meets its contract.
+use Prim.Native.Nat.{ℕ}
 use mathlib.Core.Bool.{true, false}
-use mathlib.Core.Path.{◌≡◌, refl}
+use mathlib.Core.Path.{◌≡◌, refl, ap₂}
 use mir.Facts.{to_z-of_z}
 use mir.Syntax.{w16}
 use mir.Val.{SFits}
@@ -24,4 +25,5 @@ pub returns : goal.returns
 returns c =
     let v = by_accepted (checked c.args.config.start) (weekday_of c.args.config.start) _ c.in_ok-weekday.ensures in
     let q : in_quarters c.args.config.temperature_quarters ≡ true = search rules in
-    rw (power_is c.args.config (accepted tt) true v.0 q, c.timing_from.ensures, c.set.ensures, c.registers_on.ensures, nearest_same _ (accepted_in_range _ v.0), v.1) refl
+    let n : c.default.result ≡ record { waiting = 0; dropped = 0 } = ap₂ (λ (w d : ℕ). record { waiting = w; dropped = d }) c.default.ensures.0 c.default.ensures.1 in
+    rw (power_is c.args.config (accepted tt) true v.0 q, n, c.timing_from.ensures, c.set.ensures, c.registers_on.ensures, nearest_same _ (accepted_in_range _ v.0), v.1) refl

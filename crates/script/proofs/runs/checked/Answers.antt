@@ -1,4 +1,4 @@
-use Rattle.std.proofs.lemmas.Result.{err_from_is_err_and}
+use Rattle.refusals.proofs.Checks.{error_is}
 use Rattle.std.proofs.lemmas.Bool.{eq-eqb, ne_eqb}
 use Rattle.script.specs.Runs.{checked_run}
 use Rattle.script.proofs.runs.checked.Goals as goal
@@ -6,8 +6,7 @@ use Rattle.script.proofs.runs.checked.Goals as goal
 pub returns-in_err-check_length : goal.returns-in_err-check_length
 unfolding checked_run
 returns-in_err-check_length c =
-    let p = err_from_is_err_and c.from_residual-in_err-check_length.result c.from_residual-in_err-check_length.ensures.1 in
-    rw (p.1, p.2, ← c.in_ok-checked_lent.ensures, ← c.in_err-check_length.ensures)
+    rw (error_is _ _ c.from_residual-in_err-check_length.ensures.1, ← c.in_ok-checked_lent.ensures, ← c.in_err-check_length.ensures)
 
 pub returns-then-room-script : goal.returns-then-room-script
 unfolding checked_run
@@ -16,8 +15,7 @@ returns-then-room-script c = rw (← c.in_ok-checked_lent.ensures, ← c.in_ok-c
 pub returns-in_err-check_records : goal.returns-in_err-check_records
 unfolding checked_run
 returns-in_err-check_records c =
-    let p = err_from_is_err_and c.from_residual-in_err-check_records.result c.from_residual-in_err-check_records.ensures.1 in
-    rw (p.1, p.2, ← c.in_ok-checked_lent.ensures, ← c.in_ok-check_length.ensures, eq-eqb _ _ c.if-room-script.false, ← c.in_err-check_records.ensures)
+    rw (error_is _ _ c.from_residual-in_err-check_records.ensures.1, ← c.in_ok-checked_lent.ensures, ← c.in_ok-check_length.ensures, eq-eqb _ _ c.if-room-script.false, ← c.in_err-check_records.ensures)
 
 pub returns : goal.returns
 unfolding checked_run

@@ -18,7 +18,7 @@ loop-i-preserved c =
     let i = c.loop-i.i in
     let e : c.event.result ≡ event_of s i = c.event.ensures ∙ rw (c.as_chunks.ensures.front, chunk 16 (length s / 16) s i [] (omega arith)) (event_own s i) in
     let store : c.post.new.store ≡ stored_all (option_to_list c.step-stepped.result.report) n rs = c.post.ensures ∙ search (rules, posts_report) in
-    turn _ _ _ _ c.loop-i.chip rs _ c.loop-i.invariant (omega arith) _ e _ c.step-stepped.ensures _ store _ c.answer_byte.ensures
+    turn _ _ _ _ c.loop-i.chip rs _ c.loop-i.invariant (omega arith) _ e _ c.step-stepped.ensures _ store _ c.from.ensures
 
 pub returns : goal.returns
 returns c = ends _ _ _ _ _ _ _ _ c.loop-i.invariant (omega arith) c.requires

@@ -1,5 +1,5 @@
 use Rattle.std.proofs.Common.{arith, rules}
-use Rattle.std.proofs.lemmas.Result.{err_from_is_err_and}
+use Rattle.refusals.proofs.Checks.{error_is}
 use Rattle.script_check.proofs.Folds.{none_passed, passes, stops, ends, numbered}
 use Rattle.script_check.proofs.checks.check_records.Goals as goal
 
@@ -8,8 +8,7 @@ loop-i-init c = none_passed _
 
 pub returns-in_err-last : goal.returns-in_err-last
 returns-in_err-last c =
-    let p = err_from_is_err_and c.from_residual.result c.from_residual.ensures.1 in
-    rw (p.1, p.2)
+    rw (error_is _ _ c.from_residual.ensures.1)
     (stops _ _ _ c.loop-i.invariant (omega arith) _ c.as_chunks.ensures.front _ c.judge.ensures _ (search (rules, numbered)) _ c.in_err-last.was)
 
 pub loop-i-preserved : goal.loop-i-preserved

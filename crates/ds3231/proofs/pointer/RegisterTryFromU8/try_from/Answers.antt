@@ -18,8 +18,8 @@ past : (k n : ℕ) → Not k n → k ≤ n
 past zero n h = omega arith
 past (suc k) n h = let z = past k n h.0 in let y = h.1 in omega arith
 
-is : (n : ℕ) (d : Option Register) → Names n d → ok_or d (no_register n) ≡ ok_or (named n) (no_register n)
-is n d h = ap (λ (x : Option Register). ok_or x (no_register n)) (sym (names_one n d h))
+is : (n : ℕ) (d : Option Register) → Names n d → ok_or d no_register ≡ ok_or (named n) no_register
+is n d h = ap (λ (x : Option Register). ok_or x no_register) (sym (names_one n d h))
 
 pub returns-in-0 : goal.returns-in-0
 returns-in-0 c = is c.args.number (Some Seconds) (sym c.in-0.is)

@@ -1,4 +1,5 @@
 pub mod Bytes
+pub mod Halves
 pub mod LegalRecords
 pub mod Folds
 pub mod Laws

@@ -1,4 +1,4 @@
--- Need not be believed: `folded_same` of proofs/Folds.antt says that for every script the fold's answer is that of `checked_script`, which `check` promises. What document 02, Order 3, asks of the judge, to go by a record's own sixteen bytes and the running number alone, is read here. Assumes nothing.
+-- Need not be believed: `folded_same` of proofs/Folds.antt says that for every script the fold's answer is that of `checked_script`, which `check` promises. It is read for document 02, Order 3: `judged` is what `judge` promises, and goes by a record's own sixteen bytes and the running number alone. Assumes nothing.
 use Rattle.computed.specs.Prelude.{ℕ, zero, suc, List, ltb, length, take, drop, replicate}
 use Rattle.std.specs.Prelude.{◌*◌, if◌then◌else◌, Result}
 use Rattle.refusals.specs.Numbered.{Numbered, accepted, refused, and_then}
@@ -9,7 +9,7 @@ use Rattle.script_check.specs.declared.faults.RecordFault.{RecordFault}
 abbrev pub bytes_of : List ℕ → ℕ → List ℕ
 bytes_of s i = take 16 (drop (16 * i) s)
 
--- `record_at`: record i, or zeros where the script has no whole record i
+-- what the call `record_at` answers: record i, or zeros where the script has no whole record i
 unfoldable pub record_at : List ℕ → ℕ → List ℕ
 record_at s i = if ltb i (records_in s) then bytes_of s i else replicate 16 0
 
@@ -22,11 +22,11 @@ abbrev pub moved_on : ℕ → List ℕ → Numbered ℕ → Numbered ℕ
 moved_on i bytes (accepted last) = judgement_numbered i (judged bytes last)
 moved_on i bytes (refused number values) = refused number values
 
--- Order 3: the running number after the first i records of a script, 0 before the first record; or the refusal of the first of them with a fault
+-- Order 3: the running number after the first i records of a script that has as many, 0 before the first record; or the refusal of the first of them with a fault
 unfoldable pub running : List ℕ → ℕ → Numbered ℕ
 running s zero = accepted 0
 running s (suc i) = moved_on i (bytes_of s i) (running s i)
 
--- the check by it: 14 and 13, then record after record
+-- the check by the running number: 14 and 13, then record after record
 abbrev pub folded_script : List ℕ → Numbered (Unit {0})
 folded_script s = and_then (checked_length (length s)) (verdict_of (running s (records_in s)))

@@ -79,7 +79,7 @@ fault_row TooLong = record { number = 14; values = [] }
 fault_row NotWhole = record { number = 13; values = [] }
 fault_row (Record i f) = record { number = fault_number f; values = pos i ∷ [] }
 
--- the record that a refusal names: its value, if it has one
+-- the record that a script's refusal names: its value, if it has one
 abbrev pub record_named : List ℤ → Option ℕ
 record_named [] = None
 record_named (i ∷ is) = Some (nat_abs i)
@@ -107,7 +107,7 @@ pub record Legal (s : List ℕ) : Type 0 where
   pub records : (i : ℕ) → i < records_in s → LegalRecord s i
   pub rising : (i : ℕ) → i + 1 < records_in s → instant_of s i ≤ instant_of s (i + 1)
 
--- a record of the script and the number of its fault: no record before it has a fault
+-- a record of the script and the number of its fault: no record before it has a fault. It does not look at the script's length, for which 14 and 13 come before
 pub record FirstFault (s : List ℕ) (number i : ℕ) : Type 0 where
   pub within : i < records_in s
   pub fault : judgement_numbered i (record_fault s i) ≡ refused number (pos i ∷ [])
@@ -117,7 +117,7 @@ pub record FirstFault (s : List ℕ) (number i : ℕ) : Type 0 where
 unfoldable pub checked_length : ℕ → Numbered (Unit {0})
 checked_length n = if ltb 32768 n then refused 14 [] else if eqb (n % 16) 0 then accepted tt else refused 13 []
 
--- of n records of a script from record i on: the refusal of the first that has a fault
+-- of n records of a script from record i on: the refusal of the first that has a fault, or accepted where none has
 unfoldable pub checked_from : List ℕ → ℕ → ℕ → Numbered (Unit {0})
 checked_from s i zero = accepted tt
 checked_from s i (suc n) = and_then (verdict_of (judgement_numbered i (record_fault s i))) (checked_from s (i + 1) n)

@@ -1,6 +1,6 @@
 // The kinds of records.
-ghost use Rattle.std.specs.Prelude.{◌≡◌, ℕ, ◌≤◌, ◌+◌, ◌*◌, false};
-ghost use Rattle.script_check.specs.Records.{kind_number, bad_value, OfKind};
+ghost use Rattle.std.specs.Prelude.{◌≡◌, ℕ, List, ◌<◌, not, ltb, eqb, ◌&&◌};
+ghost use Rattle.script_check.specs.Records.{little_endian, kind_of, value_of, padding_of, kind_number, bad_value, OfKind};
 
 use crate::RecordFault;
 
@@ -11,6 +11,18 @@ pub enum Kind {
     Write,
     Read,
     Stop,
+}
+
+// The bits that bytes 8 to 15 of a legal START, WRITE, READ and STOP never have: all but those of the kind and of its values.
+const NEVER_SET: [u64; 4] = [!0xFF00, !0xFF01, !0x0102, !0x0003];
+
+// Whether bytes 8 to 15 of a record are a kind, a value that it may have, and zeros: one test for all three. A kind above 3 is
+// looked up by its lowest two bits, and has another bit.
+pub(crate) fn is_legal_half(half: u64) -> bool
+    ensures { (bytes : List ℕ) → kind_of bytes 0 < 256 → value_of bytes 0 < 256 → half ≡ little_endian bytes 8 8
+        → result ≡ (ltb (kind_of bytes 0) 4 && not (bad_value (kind_of bytes 0) (value_of bytes 0))) && eqb (padding_of bytes 0) 0 }
+{
+    half & NEVER_SET[half as usize % 4] == 0
 }
 
 impl TryFrom<u8> for Kind {
@@ -30,21 +42,6 @@ impl TryFrom<u8> for Kind {
 }
 
 impl Kind {
-    // The largest number that bytes 8 to 15 of a legal record of this kind make: the kind, its largest value, then zeros.
-    #[tactic(auto, unfolding(crate::specs::Records::bad_value))]
-    pub(crate) fn largest_half(self) -> u64
-        ensures within { result ≤ 65535 }
-        ensures good { (v : ℕ) → kind_number self + 256 * v ≤ result → bad_value (kind_number self) v ≡ false }
-        ensures bad { (v : ℕ) → v ≤ 255 → bad_value (kind_number self) v ≡ false → kind_number self + 256 * v ≤ result }
-    {
-        match self {
-            Kind::Start => 65_280,
-            Kind::Write => 65_281,
-            Kind::Read => 258,
-            Kind::Stop => 3,
-        }
-    }
-
     // A READ above 1, or a STOP that is not 0.
     #[tactic(auto, unfolding(crate::specs::Records::bad_value))]
     pub(crate) fn is_bad_value(self, value: u8) -> bool

@@ -1,4 +1,5 @@
-// A chip with its store of N records as one value, for programs: each method lends both to the call of its name.
+// A chip, or the counts of the reports, with a store of N records as one value, for programs: each method but `new` lends both to
+// a call.
 // To read it: each contract is that of the call in `ds3231_bus`, `diagnostics` or `script`, on chip and store before and after.
 #![tactic(auto)]
 

@@ -1,4 +1,4 @@
--- The text of a date and a time of day, as ISO 8601 writes them: `2026-01-01T00:00:00`. Assumes nothing.
+-- The text of a date and a time of day, of a valid one as ISO 8601 writes it: `2026-01-01T00:00:00`. Assumes nothing.
 use Rattle.std.specs.Prelude.{ℕ, List, [], false, ◌-◌, ◌^◌, ◌++◌, codes}
 use Rattle.std.specs.Fmt.{decimal, format_spec, padded_integral}
 use Rattle.calendar.specs.declared.DateTime.{DateTime}

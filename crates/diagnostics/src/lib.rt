@@ -189,8 +189,8 @@ struct ReportOutcome {
     posting: Posting,
 }
 
-// Writes a report's record into a lent store, if there is one and the store has its place. No other function puts a report
-// into a lent store. With `get_mut` it does not prove: of a slice after it the length is known, and no element.
+// Writes a report's record into its place in a store, if there is a report and the store has the place. Every report is written
+// by it; a script's run has it write into a copy of the store. With `get_mut` it does not prove: of a slice after it the length is known, and no element.
 pub fn post(store: &mut [I2cDiagnostic], posting: Option<Posting>)
     ensures { store.new ≡ posted posting store.old }
 {

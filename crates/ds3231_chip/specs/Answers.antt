@@ -1,4 +1,4 @@
--- What power-on and the calls that ask refuse, in the numbers of 'The table of refusals', each by the cases of its enum, and the chip that is not sound. Assumes nothing.
+-- What power-on, the calls that ask and the calls that are lent a store refuse, in the numbers of 'The table of refusals', each by the cases of its enum, and the chip that is not sound. Assumes nothing.
 use Rattle.computed.specs.Prelude.{ℕ, false, not, [], pos, eqb, replicate}
 use Rattle.std.specs.Prelude.{◌∷◌, if◌then◌else◌, None}
 use Rattle.refusals.specs.Numbered.{Numbered, accepted, refused, Row}

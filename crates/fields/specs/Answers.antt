@@ -1,4 +1,4 @@
--- Need not be believed: no contract of a call of the chip cites it, and the contract of `decode` (src/lib.rt) equates what `decode` answers with `meaning` (specs/Table.antt). Who calls `decode` or `from_bcd`, which are no calls of document 01, reads here what they answer. Assumes nothing.
+-- Need not be believed: no contract of a call of the chip cites it, and the contract of `decode` (src/lib.rt) equates what `decode` answers with `meaning` (specs/Table.antt). Who calls `decode`, which is no call of document 01, reads here what it answers. Assumes nothing.
 use Rattle.computed.specs.Prelude.{ℕ, false, leb}
 use Rattle.std.specs.Prelude.{◌&&◌, if◌then◌else◌, Option, Some, None}
 use Rattle.fields.specs.Table.{Meaning, undefined, sets, from_digits, decimal}

@@ -1,4 +1,3 @@
-pub mod Copies
 pub mod Own
 pub mod Turns
 pub mod RunLaws

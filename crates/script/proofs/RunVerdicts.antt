@@ -1,6 +1,6 @@
 -- A run by its verdict: one that goes through, one that is refused, and the run from `clockrun`'s power-on, which neither its chip nor its store refuses.
 -- Assumes nothing.
-use Prim.Native.Nat.{ℕ}
+use Prim.Native.Nat.{ℕ, ◌≤◌, ◌<◌}
 use mathlib.Core.Bool.{Bool, true, not}
 use mathlib.Core.List.{List, []}
 use mathlib.Core.Path.{◌≡◌, sym, ap, ◌∙◌}
@@ -18,7 +18,8 @@ use Rattle.ds3231.specs.declared.Ds3231Config.{Ds3231Config}
 use Rattle.ds3231.proofs.ExactTime.{power_on_sound}
 use Rattle.ds3231_chip.specs.Answers.{config_row, lent_verdict}
 use Rattle.ds3231_chip.specs.declared.power.Ds3231ConfigError.{Ds3231ConfigError}
-use Rattle.script_check.specs.Records.{records_in, checked_length}
+use Rattle.script_check.specs.Records.{kind_of, records_in, checked_length, checked_script}
+use Rattle.script_check.proofs.Laws.{accepted_legal}
 use Rattle.script.specs.Runs.{Held, run_row, checked_run, run_verdict, clockrun_held, Ran}
 use Rattle.script.specs.declared.errors.RunError.{RunError}
 
@@ -28,6 +29,13 @@ use Rattle.script.specs.declared.errors.RunError.{RunError}
 pub accepted_held : (h : Held) (s : List ℕ) (room : ℕ) → run_verdict h s room ≡ accepted tt → (length h.store ≡ 256) × (room ≡ records_in s) × (sound h.chip ≡ true)
 unfolding run_verdict checked_run checked_length
 accepted_held h s room e = (grind (arith, nat_tests), grind (arith, nat_tests), grind (arith, nat_tests))
+
+-- each record has a kind
+pub accepted_kind : (h : Held) (s : List ℕ) (room : ℕ) → run_verdict h s room ≡ accepted tt → (i : ℕ) → i < records_in s → kind_of s i ≤ 3
+unfolding run_verdict checked_run
+accepted_kind h s room e i l =
+    let legal : checked_script s ≡ accepted tt = grind (arith, nat_tests) in
+    ((accepted_legal s legal).records i l).kind
 
 -- ---- the tests
 

@@ -14,6 +14,6 @@ mod runs;
 
 pub use errors::RunError;
 pub use host::{clock_script_check, clock_script_run};
-pub use records::{Record, record_at};
+pub use records::Record;
 pub use runs::{RunOutcome, run, run_from_power_on, run_values};
 pub use script_check::{Kind, MAX_RECORDS, RECORD, RecordFault, ScriptFault, check};

@@ -3,11 +3,10 @@
 use Rattle.std.proofs.Common.{◌≡◌, ℕ, zero, suc, ◌+◌, ◌-◌, ◌*◌, ◌≤◌, ◌<◌, List, [], length, get_or, drop, ℤ, refl, sym, ap, ◌∙◌, add-one, arith, length-drop, Result, Ok, Err, MatchResult, IsErrAnd}
 use Rattle.refusals.proofs.Checks.{error_is}
 use Rattle.std.proofs.lemmas.List.{length-take-le, get_or-take, get_or-drop}
-use Rattle.std.proofs.lemmas.Bool.{lt-ltb}
 use Rattle.std.specs.Simd.{first_chunks}
 use Rattle.refusals.specs.Numbered.{Numbered, accepted, refused, and_then, answered, refused_by}
 use Rattle.script_check.specs.Records.{little_endian, instant_of, kind_of, value_of, padding_of, records_in, last_of, judged_after, record_fault, judgement_numbered, verdict_of, checked_length, checked_from, checked_script, fault_row}
-use Rattle.script_check.specs.Judging.{bytes_of, record_at, judged, moved_on, running, folded_script}
+use Rattle.script_check.specs.Judging.{bytes_of, judged, moved_on, running, folded_script}
 use Rattle.script_check.specs.declared.faults.RecordFault.{RecordFault}
 use Rattle.script_check.specs.declared.faults.ScriptFault.{ScriptFault}
 use Rattle.script_check.specs.declared.faults.ScriptFault.TheVariants.{Record}
@@ -15,10 +14,6 @@ use Rattle.script_check.proofs.Bytes.{part_number, chunk}
 use Rattle.script_check.proofs.LegalRecords.{passing}
 
 -- ---- a record by its own bytes
-
-pub record_own : (s : List ℕ) (i : ℕ) → i < records_in s → record_at s i ≡ bytes_of s i
-unfolding record_at
-record_own s i h = rw (lt-ltb i (records_in s) h)
 
 -- they are sixteen
 pub own_sixteen : (s : List ℕ) (i : ℕ) → i < records_in s → length (bytes_of s i) ≡ 16

@@ -1,6 +1,6 @@
 -- Need not be believed: `folded_same` of proofs/Folds.antt says that for every script the fold's answer is that of `checked_script`, which `check` promises. It is read for document 02, Order 3: `judged` is what `judge` promises, and goes by a record's own sixteen bytes and the running number alone. Assumes nothing.
-use Rattle.computed.specs.Prelude.{ℕ, zero, suc, List, ltb, length, take, drop, replicate}
-use Rattle.std.specs.Prelude.{◌*◌, if◌then◌else◌, Result}
+use Rattle.computed.specs.Prelude.{ℕ, zero, suc, List, length, take, drop}
+use Rattle.std.specs.Prelude.{◌*◌, Result}
 use Rattle.refusals.specs.Numbered.{Numbered, accepted, refused, and_then}
 use Rattle.script_check.specs.Records.{records_in, judged_after, judgement_numbered, verdict_of, checked_length}
 use Rattle.script_check.specs.declared.faults.RecordFault.{RecordFault}
@@ -8,10 +8,6 @@ use Rattle.script_check.specs.declared.faults.RecordFault.{RecordFault}
 -- the sixteen bytes of record i, of a script that has it
 abbrev pub bytes_of : List ℕ → ℕ → List ℕ
 bytes_of s i = take 16 (drop (16 * i) s)
-
--- what the call `record_at` answers: record i, or zeros where the script has no whole record i
-unfoldable pub record_at : List ℕ → ℕ → List ℕ
-record_at s i = if ltb i (records_in s) then bytes_of s i else replicate 16 0
 
 -- Order 3: a record is judged by its own sixteen bytes, which alone are a script of one record, and the running number
 abbrev pub judged : List ℕ → ℕ → Result ℕ RecordFault

@@ -15,7 +15,7 @@ pub use checks::{check, check_length, check_records};
 pub use faults::{RecordFault, ScriptFault};
 pub use judging::judge;
 pub use kinds::Kind;
-pub use records::{instant, kind, record_at, value};
+pub use records::{instant, kind, value};
 
 // The bytes of a record.
 pub const RECORD: usize = 16;

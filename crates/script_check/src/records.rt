@@ -1,18 +1,8 @@
 // The sixteen bytes of a record, and what stands in them. A type of these bytes would be the array again.
 ghost use Rattle.std.specs.Prelude.{◌≡◌, ◌<◌, ◌*◌};
 ghost use Rattle.script_check.specs.Records.{little_endian, instant_of, kind_of, value_of};
-ghost use Rattle.script_check.specs.Judging.{record_at};
 
 use crate::RECORD;
-
-// Record i, or zeros where the script has fewer: every number has an answer.
-#[tactic(auto, using(crate::proofs::Bytes::chunk), unfolding(crate::specs::Judging::record_at))]
-pub fn record_at(script: &[u8], i: usize) -> [u8; RECORD]
-    ensures { result ≡ record_at script.now i }
-{
-    let (records, _) = script.as_chunks::<RECORD>();
-    records.get(i).copied().unwrap_or([0; RECORD])
-}
 
 // Bytes 0 to 7, lowest first.
 pub fn instant(bytes: [u8; RECORD]) -> u64

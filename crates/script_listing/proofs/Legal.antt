@@ -6,8 +6,7 @@ use mathlib.Core.Path.{◌≡◌, refl, sym, ap, ap₂, ◌∙◌, subst}
 use native.Mathlib.Omega.{arith}
 use lib.Dec.{eqb}
 use lib.IntN.{ℤ}
-use lib.ListN.{length, take, replicate}
-use lib.Seq.{length-take-le}
+use lib.ListN.{length}
 use borrow.Author.Tests.{eq-eqb}
 use Rattle.std.specs.Prelude.{if◌then◌else◌, option_to_list, Result}
 use Rattle.diagnostics.specs.declared.I2cDiagnostic.{I2cDiagnostic}
@@ -27,11 +26,7 @@ use Rattle.script_listing.specs.Listing.{listing_by, listing_of}
 pub at_most : (s : List ℕ) → checked_script s ≡ accepted tt → records_in s ≤ 2048
 at_most s e = omega (arith, (accepted_legal s e).short)
 
--- so many answers are lent of 2,048 bytes
-pub part_length : (n k : ℕ) → n ≡ min k 2048 → length {A = ℕ} (take n (replicate 2048 0)) ≡ n
-part_length n k e = length-take-le n (replicate 2048 0) (omega arith)
-
--- so a run is not refused for the answers that are lent
+-- a run is not refused for the answers that are lent
 pub verdict_is : (s : List ℕ) (room : ℕ) → room ≡ min (records_in s) 2048 → run_verdict clockrun_held s room ≡ checked_script s
 unfolding checked_run
 verdict_is s room l = power_on_verdict s room ∙ by (checked_length (length s)) refl

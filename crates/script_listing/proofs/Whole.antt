@@ -1,12 +1,12 @@
 -- The whole text of a script that ran, from its parts, where there is room for every line.
 -- Assumes nothing.
-use Prim.Native.Nat.{ℕ, ◌+◌, ◌*◌, ◌≤◌, ◌<◌, min}
+use Prim.Native.Nat.{ℕ, ◌+◌, ◌*◌, ◌≤◌, min}
 use mathlib.Core.List.{List, ◌++◌}
 use mathlib.Core.Path.{◌≡◌, ap, ◌∙◌}
 use native.Mathlib.Nat.{zero-add, min-le_right}
 use native.Mathlib.Omega.{arith}
 use lib.ListN.{length, take, drop}
-use borrow.Author.Tests.{le-leb, lt-leb}
+use borrow.Author.Tests.{le-leb}
 use Rattle.listing.specs.Appended.{appended, Appended, AppendedIn}
 use Rattle.listing.specs.Text.{header, diagnostic_lines, dropped_line}
 use Rattle.listing.proofs.Appending.{also, fitting}
@@ -14,12 +14,8 @@ use Rattle.listing.proofs.Lines.{header_length, first_lines_length}
 use Rattle.script_check.specs.Records.{records_in}
 use Rattle.script.specs.Runs.{held_at, clockrun_held}
 use Rattle.script.specs.declared.runs.RunOutcome.{RunOutcome}
-use Rattle.script_listing.specs.Listing.{event_lines, ran_listing, listing_of, Printed}
+use Rattle.script_listing.specs.Listing.{event_lines, ran_listing, Printed}
 use Rattle.script_listing.proofs.Events.{events_length}
-
--- the header leaves room for the events
-pub after_header : (s : List ℕ) {out out₁ : List ℕ} {r₁ : ℕ} → records_in s ≤ 2048 → 110688 ≤ length out → length out₁ ≡ length out → AppendedIn 48 header out 0 out₁ r₁ → r₁ + 48 * records_in s ≤ length out₁
-after_header s n h k a = let f = fitting {room = 48} {at = 0} {text = header} (omega arith) a in omega (arith, f.next, header_length)
 
 module _ (s : List ℕ) (e : RunOutcome) {out out₁ out₂ out₃ out₄ : List ℕ} {r₁ r₂ r₃ r₄ : ℕ} where
   pub whole : records_in s ≤ 2048 → record { chip = e.chip; store = e.records } ≡ held_at s clockrun_held (records_in s) → length e.records ≡ 256 → 110688 ≤ length out
@@ -40,9 +36,6 @@ module _ (s : List ℕ) (e : RunOutcome) {out out₁ out₂ out₃ out₄ : List
       rw (← held) (also (omega arith) (also (omega arith) f events) (also (omega arith) w d))
 
 -- ---- the listing, by the room
-
-pub no_room : (s out : List ℕ) → length out < 110688 → Printed (listing_of s) out out 0
-no_room s out h = let e = lt-leb 110688 (length out) h in (rw e, rw e)
 
 pub roomy : {text out out' : List ℕ} {r : ℕ} → 110688 ≤ length out → Appended text out 0 out' r → Printed text out out' r
 unfolding appended

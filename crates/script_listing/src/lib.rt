@@ -1,5 +1,5 @@
 // What `clockrun` prints for a script, whole, made in a lent slice of bytes.
-// Script, answers and text are slices that the caller has, and go on as they are.
+// Script and text of `listing` are slices that the caller has, and go on as they are.
 // To read it: `specs/Listing.antt` has the listing of a script, or the line of its refusal; the lines are `listing`'s.
 #![tactic(auto)]
 

@@ -14,21 +14,13 @@ fn main(rt: HostRuntime) {
     // A bound, since a program has to end.
     for _ in 0..u32::MAX {
         match blocks::read(&mut stdin, &mut block) {
-            None | Some([]) => return,
-            Some(block) => answer(&rt, block),
+            Some([SCRIPTS, scripts @ ..]) => {
+                test_replaying_scripts::replay(&rt, scripts);
+            }
+            Some([_, lists @ ..]) => {
+                test_replaying::replay(&rt, lists);
+            }
+            _ => return,
         }
-    }
-}
-
-// Prints the answers of a block's lists of calls, or the listings of its scripts.
-fn answer(rt: &impl Print, block: &[u8]) {
-    match block {
-        [SCRIPTS, scripts @ ..] => {
-            test_replaying_scripts::replay(rt, scripts);
-        }
-        [_, lists @ ..] => {
-            test_replaying::replay(rt, lists);
-        }
-        [] => {}
     }
 }

@@ -1,5 +1,6 @@
 // The lent store of diagnostics: it fills, overflows, is taken from and fills again; takings and calls that are refused.
-// Report k is made at instant k, so that a record tells which report it is.
+// Report k is made at instant k, so that a record tells which report it is. The numbers of the file `stdout` are worked out by hand
+// from document 01.
 #![tactic(auto)]
 
 use bus_by_value::{Reporting, Session};

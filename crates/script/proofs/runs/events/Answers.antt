@@ -3,8 +3,7 @@ use Rattle.diagnostics.specs.Reports.{stored_all}
 use Rattle.std.specs.Prelude.{option_to_list}
 use Rattle.script_check.proofs.Bytes.{chunk}
 use Rattle.script.specs.Runs.{event_of}
-use Rattle.script_check.proofs.Folds.{own_kind}
-use Rattle.script.proofs.Own.{event_own}
+use Rattle.script.proofs.Own.{kind_own, event_own}
 use Rattle.script.proofs.RunVerdicts.{accepted_kind}
 use Rattle.script.proofs.Turns.{begins, turn, ends, posts_report}
 use Rattle.script.proofs.runs.events.Goals as goal
@@ -13,10 +12,7 @@ pub loop-i-init : goal.loop-i-init
 loop-i-init c = begins _ _ _ _ c.requires refl
 
 pub event-requires : goal.event-requires
-event-requires c =
-    let s = c.args.script.now in
-    let i = c.loop-i.i in
-    rw (c.as_chunks.ensures.front, chunk 16 (length s / 16) s i [] (omega arith), own_kind s i) (accepted_kind _ s _ c.requires i (omega arith))
+event-requires c = kind_own c.args.script.now _ c.as_chunks.ensures.front (accepted_kind _ _ _ c.requires) _ (omega arith)
 
 pub loop-i-preserved : goal.loop-i-preserved
 loop-i-preserved c =

@@ -130,7 +130,7 @@ time_fact t e =
     let b = both (is_accepted (checked (with_day 1 t))) (leb 1 t.day) a.0 in
     record { valid = accepted_in_range (with_day 1 t) (is_accepted_lem (checked (with_day 1 t)) b.0); day_from = leb-true _ _ b.1; day_to = leb-true _ _ a.1 }
 
-same_test : (a b : Bool) → (a ≡ true → b ≡ true) → (b ≡ true → a ≡ true) → a ≡ b
+pub same_test : (a b : Bool) → (a ≡ true → b ≡ true) → (b ≡ true → a ≡ true) → a ≡ b
 same_test true b f g = sym (f refl)
 same_test false true f g = g refl
 same_test false false f g = refl
@@ -152,7 +152,7 @@ sound_fact c e =
     let a = both _ (leb c.diagnostics.waiting 256) e in
     let b = both (sound_timing c.timing) (sound_registers c.registers) a.0 in
     let p = both _ (sound_if_pending c.timing.pending) b.0 in
-    let o = both (ltb c.timing.clock.base_seconds range) (leb c.timing.clock.weekday_offset 6) p.0 in
+    let o = both (ltb c.timing.clock.base_seconds range) _ p.0 in
     let s = both _ (eqb (bit_and c.registers.status 0x8B) c.registers.status) b.1 in
     let r = both (in_quarters c.registers.temperature_quarters) (eqb (bit_and c.registers.control 0x20) 0) s.0 in
     record {

@@ -10,5 +10,6 @@ pub mod Sounds
 pub mod NeverRefused
 pub mod ExactTime
 pub mod ReportTotal
+pub mod EightBits
 pub mod Witness
 pub mod Examples

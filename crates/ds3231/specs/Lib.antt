@@ -9,3 +9,4 @@ pub mod Calls
 pub mod Model
 pub mod Exact
 pub mod Total
+pub mod EightBits

@@ -2,7 +2,7 @@
 // calls mean, document 01's model, the exact time and the report total are definitions and theorems.
 // To read it: of specs/ `Numbers`, `Map`, `Clock`, `Timing`, `Registers`, `Calls`, then `Model`, `Exact` and `Total`; `Changed`
 // has the parts that chip and model say each for itself. docs/EXACT-TIME.md says the theorem in plain words; its proof is
-// `proofs/ExactTime.antt`, and `proofs/Witness.antt` shows that it is not empty.
+// `proofs/ExactTime.antt`, and `proofs/Witness.antt` shows that it is not empty. `EightBits` is the claim of the weekday offset.
 #![tactic(auto)]
 
 ghost use Rattle.std.specs.Prelude.{◌≡◌};
@@ -15,13 +15,13 @@ mod pointer;
 
 pub use pointer::NoSuchRegister;
 
-// The running clock: the seconds since 2000 at an instant at which a second of the clock began, and the offset that gives
-// the weekday from the day number.
+// The running clock: the seconds since 2000 at an instant at which a second of the clock began, and the offset, at most 6, that
+// gives the weekday from the day number.
 #[derive(Clone, Copy, Debug, PartialEq, Eq)]
 pub struct Clock {
     pub base_seconds: u64,
     pub base_at: u64,
-    pub weekday_offset: u64,
+    pub weekday_offset: u8,
 }
 
 // The time registers written in the transaction under way, applied when it ends. Its day may not fit its month until then.
@@ -74,13 +74,13 @@ pub enum Phase {
 // where there is one: with it inside the pending time, setting the time is slower than the Rust.
 #[derive(Clone, Copy, Debug)]
 pub struct Timing {
+    pub clock: Clock,
+    pub pending_at: u64,
+    pub latched: [u8; 7],
+    pub twelve_hour: bool,
+    pub pending: Option<PendingTime>,
     pub phase: Phase,
     pub pointer: Register,
-    pub clock: Clock,
-    pub twelve_hour: bool,
-    pub latched: [u8; 7],
-    pub pending: Option<PendingTime>,
-    pub pending_at: u64,
 }
 
 // The registers outside the time: control without bit 5 and status without bit 2, which read set while a conversion runs.
@@ -89,13 +89,14 @@ pub struct Registers {
     pub alarms: [u8; 7],
     pub control: u8,
     pub status: u8,
-    pub conversion_end: Option<u64>,
     pub aging: u8,
     pub temperature_quarters: i16,
     pub int_sqw_reported: bool,
+    pub conversion_end: Option<u64>,
 }
 
-// The DS3231 on an I2C bus. Its diagnostics wait in a store that each call is lent.
+// The DS3231 on an I2C bus, in 104 bytes: the fields of a struct lie in memory in the order of the source, which leaves few gaps.
+// Its diagnostics wait in a store that each call is lent.
 #[derive(Clone, Copy, Debug)]
 pub struct Ds3231 {
     pub timing: Timing,

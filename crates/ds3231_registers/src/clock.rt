@@ -28,7 +28,10 @@ pub fn now(clock: Clock, at: u64) -> DateTime
 pub(crate) fn weekday(clock: Clock, at: u64) -> u8
     ensures { result ≡ weekday_at clock at }
 {
-    calendar::weekday_of_day(seconds(clock, at) / SECONDS_PER_DAY, clock.weekday_offset)
+    calendar::weekday_of_day(
+        seconds(clock, at) / SECONDS_PER_DAY,
+        u64::from(clock.weekday_offset),
+    )
 }
 
 // The instant at which the second running at `at` began.
@@ -53,9 +56,9 @@ pub fn set(time: DateTime, weekday: u8, base_at: u64) -> Clock
 }
 
 // The offset, 0 to 6, with which the day `days` after 2000-01-01 has the weekday: modulo 7, the weekday less 1 is the weekday
-// plus 6.
-fn offset_for(weekday: u8, days: u64) -> u64
+// plus 6. It fits its eight bits.
+fn offset_for(weekday: u8, days: u64) -> u8
     ensures { result ≡ offset_for weekday days }
 {
-    (u64::from(weekday) + 6 + DAYS_PER_WEEK - days % DAYS_PER_WEEK) % DAYS_PER_WEEK
+    ((u64::from(weekday) + 6 + DAYS_PER_WEEK - days % DAYS_PER_WEEK) % DAYS_PER_WEEK) as u8
 }

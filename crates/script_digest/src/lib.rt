@@ -45,7 +45,7 @@ fn timing_number(timing: Timing) -> u64 {
 }
 
 fn clock_number(clock: Clock) -> u64 {
-    clock.base_seconds ^ clock.base_at ^ clock.weekday_offset
+    clock.base_seconds ^ clock.base_at ^ u64::from(clock.weekday_offset)
 }
 
 fn pending_number(pending: PendingTime) -> u64 {

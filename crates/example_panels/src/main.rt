@@ -30,20 +30,11 @@ const MILLISECOND: u64 = 1_000_000;
 fn main(rt: HostRuntime) -> Result<()> {
     let mut store = [I2cDiagnostic::unwritten(); 256];
     let mut panels = powered(rt.alloc())?;
-    for (number, chip) in panels.iter_mut().enumerate() {
-        bus::set_weekday(chip, &mut store, weekday(number), SECOND_1)?;
-    }
+    set_weekdays(&mut panels, &mut store)?;
     let mut copies = panels.clone()?;
     println!(rt; "panel,chip,seconds,minutes,hours,weekday,date,month,year")?;
-    for (number, chip) in copies.iter_mut().enumerate() {
-        bus::set_weekday(chip, &mut store, weekday(number % 7 + 3), HOUR_36)?;
-        let time = bus::read_time(chip, &mut store, HOUR_36 + MILLISECOND)?;
-        print_line(&rt, number, "copy", time)?;
-    }
-    for (number, chip) in panels.iter_mut().enumerate() {
-        let time = bus::read_time(chip, &mut store, HOUR_12)?;
-        print_line(&rt, number, "panel", time)?;
-    }
+    print_copies(&rt, &mut copies, &mut store)?;
+    print_panels(&rt, &mut panels, &mut store)?;
     print_sizes(&rt, panels.len(), power_on(started(0))?)
 }
 
@@ -65,6 +56,31 @@ fn started(number: u32) -> Ds3231Config {
 // A weekday, 1 to 7.
 fn weekday(number: usize) -> u8 {
     (number % 7) as u8 + 1
+}
+
+fn set_weekdays(panels: &mut [Ds3231], store: &mut [I2cDiagnostic]) -> Result<()> {
+    for (number, chip) in panels.iter_mut().enumerate() {
+        bus::set_weekday(chip, store, weekday(number), SECOND_1)?;
+    }
+    Ok(())
+}
+
+// At 36 hours each copy gets the weekday three after the one that its panel got; it is read a millisecond later.
+fn print_copies(rt: &impl Print, copies: &mut [Ds3231], store: &mut [I2cDiagnostic]) -> Result<()> {
+    for (number, chip) in copies.iter_mut().enumerate() {
+        bus::set_weekday(chip, store, weekday(number % 7 + 3), HOUR_36)?;
+        let time = bus::read_time(chip, store, HOUR_36 + MILLISECOND)?;
+        print_line(rt, number, "copy", time)?;
+    }
+    Ok(())
+}
+
+fn print_panels(rt: &impl Print, panels: &mut [Ds3231], store: &mut [I2cDiagnostic]) -> Result<()> {
+    for (number, chip) in panels.iter_mut().enumerate() {
+        let time = bus::read_time(chip, store, HOUR_12)?;
+        print_line(rt, number, "panel", time)?;
+    }
+    Ok(())
 }
 
 fn print_line(rt: &impl Print, number: usize, chip: &str, time: [u8; 7]) -> Result<()> {

@@ -1,22 +1,20 @@
 -- The claim of `EightBits`, proved: a sound chip's offset is at most 6, every call keeps it sound, and on a chip that is not sound each call is refused.
 -- Assumes nothing.
 use Prim.Native.Nat.{ℕ, ◌^◌, ◌≤◌, ◌<◌}
-use mathlib.Core.Bool.{Bool, true, false, not}
+use mathlib.Core.Bool.{Bool, true, false}
 use mathlib.Core.List.{List, [], ◌∷◌}
 use mathlib.Core.Path.{◌≡◌, refl, sym, ap, subst, ◌∙◌}
 use native.Mathlib.Omega.{arith}
 use borrow.Author.Tests.{leb-true, le-leb}
-use lib.Dec.{leb, eqb}
-use Rattle.computed.specs.Prelude.{length}
-use Rattle.std.specs.Prelude.{if◌then◌else◌}
-use Rattle.refusals.specs.Numbered.{accepted, refused, unless}
-use Rattle.ds3231.specs.Calls.{sound, Call, lent_store, too_short, chip_by, chip_after, store_after, out_after, answer}
+use lib.Dec.{leb}
+use Rattle.refusals.specs.Numbered.{Numbered, unless}
+use Rattle.ds3231.specs.Calls.{sound, Call, chip_by, chip_after}
 use Rattle.ds3231.specs.Total.{chip_after_all}
-use Rattle.ds3231.specs.EightBits.{with_offset, in_eight_bits, of_any_width, Outcome, outcomes, NeverAbove6, NothingLost, EightBits}
+use Rattle.ds3231.specs.EightBits.{with_offset, in_eight_bits, of_any_width, Outcome, outcome, outcomes, NeverAbove6, NothingLost, EightBits}
 use Rattle.ds3231.specs.declared.Ds3231.{Ds3231}
 use Rattle.ds3231.proofs.Facts.{same_test, sound_test, sound_fact}
 use Rattle.ds3231.proofs.Sounds.{sound_kept, sound_run}
-use Rattle.ds3231.proofs.ExactTime.{power_on_sound}
+use Rattle.ds3231.proofs.ExactTime.{verdict_by, power_on_sound}
 
 -- ---- a sound chip
 
@@ -43,8 +41,7 @@ Fits c = c.timing.clock.weekday_offset < 2 ^ 8
 
 -- a call on a chip that is not sound is refused, and leaves it
 refused_leaves : (k : Call) (c : Ds3231) → sound c ≡ false → c ≡ chip_after k c
-refused_leaves k c e =
-    sym (ap (λ (b : Bool). unless (if not b then refused 10 [] else if not (eqb (length (lent_store k)) 256) then refused 11 [] else if too_short k c then refused 12 [] else accepted tt) (chip_by k c) c) e)
+refused_leaves k c e = sym (ap (λ (v : Numbered (Unit {0})). unless v (chip_by k c) c) (verdict_by k c false e))
 
 fits_after : (k : Call) (c : Ds3231) → Fits c → Fits (chip_after k c)
 fits_after k c h = by (sound c) refl
@@ -64,11 +61,8 @@ outcomes_same : (ks : List Call) (c : Ds3231) → Fits c → outcomes in_eight_b
 outcomes_same [] c h = refl
 outcomes_same (k ∷ ks) c h =
     let f = fits_after k c h in
-    ap (λ (d : Ds3231). with_kept d ∷ outcomes in_eight_bits d ks) (held (chip_after k c) f)
-    ∙ ap (λ (l : List Outcome). with_kept (chip_after k c) ∷ l) (outcomes_same ks (chip_after k c) f)
-  where
-    with_kept : Ds3231 → Outcome
-    with_kept d = record { answered = answer k c; chip = d; store = store_after k c; out = out_after k c }
+    ap (λ (d : Ds3231). outcome k c d ∷ outcomes in_eight_bits d ks) (held (chip_after k c) f)
+    ∙ ap (λ (l : List Outcome). outcome k c (chip_after k c) ∷ l) (outcomes_same ks (chip_after k c) f)
 
 nothing_lost : (c : Ds3231) → Fits c → NothingLost c
 nothing_lost c h =

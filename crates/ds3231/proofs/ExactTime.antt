@@ -46,12 +46,16 @@ use Rattle.ds3231.proofs.Follows.{Follows, exact_is, follow_later, follow_latch,
 
 -- ---- the events are the bus calls that are lent 256 records
 
--- the verdict of a sound chip
+-- the verdict, by whether the chip is sound
+abbrev verdict_of : Bool → Call → Ds3231 → Numbered (Unit {0})
+verdict_of b k c = if not b then refused 10 [] else if not (eqb (length (lent_store k)) 256) then refused 11 [] else if too_short k c then refused 12 [] else accepted tt
+
+pub verdict_by : (k : Call) (c : Ds3231) (b : Bool) → sound c ≡ b → verdict k c ≡ verdict_of b k c
+verdict_by k c b e = ap (λ (x : Bool). verdict_of x k c) e
+
 pub verdict_is : (k : Call) (c : Ds3231) → Sound c
     → verdict k c ≡ (if not (eqb (length (lent_store k)) 256) then refused 11 [] else if too_short k c then refused 12 [] else accepted tt)
-verdict_is k c h =
-    ap (λ (b : Bool). if not b then refused 10 [] else if not (eqb (length (lent_store k)) 256) then refused 11 [] else if too_short k c then refused 12 [] else accepted tt)
-    (sound_test c h)
+verdict_is k c h = verdict_by k c true (sound_test c h)
 
 bus_feed : (lent : Bool) (s : List I2cDiagnostic) (e : Event) (es : List Event)
     → events_by (if not lent then refused 11 [] else accepted tt) (bus s e) es ≡ (if lent then e ∷ es else es)

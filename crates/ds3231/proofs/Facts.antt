@@ -117,7 +117,7 @@ sound_test c h =
     let t = h.timing in
     let g = h.registers in
     both_true _ _ (both_true _ _
-    (both_true _ _ (both_true _ _ (lt-ltb _ _ t.base) (le-leb _ _ t.offset)) (pending_test c.timing.pending t.pending))
+    (both_true _ _ (both_true _ _ (lt-ltb _ _ t.base) (le-leb _ _ (omega (arith, t.offset)))) (pending_test c.timing.pending t.pending))
     (both_true _ _ (both_true _ _ g.quarters (eq-eqb _ _ g.control)) (eq-eqb _ _ g.status)))
     (le-leb _ _ h.waiting)
 
@@ -156,7 +156,7 @@ sound_fact c e =
     let s = both _ (eqb (bit_and c.registers.status 0x8B) c.registers.status) b.1 in
     let r = both (in_quarters c.registers.temperature_quarters) (eqb (bit_and c.registers.control 0x20) 0) s.0 in
     record {
-      timing = record { base = ltb-true _ _ o.0; offset = leb-true _ _ o.1; pending = pending_fact c.timing.pending p.1 };
+      timing = record { base = ltb-true _ _ o.0; offset = omega (arith, leb-true _ _ o.1); pending = pending_fact c.timing.pending p.1 };
       registers = record { quarters = r.0; control = eqb-true _ _ r.1; status = eqb-true _ _ s.1 };
       waiting = leb-true _ _ a.1;
     }

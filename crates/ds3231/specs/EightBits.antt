@@ -38,12 +38,16 @@ pub record Outcome : Type 0 where
   pub store : List I2cDiagnostic
   pub out : List I2cDiagnostic
 
+-- of a call on the chip c, after which the host keeps `kept`
+abbrev pub outcome : Call → Ds3231 → (kept : Ds3231) → Outcome
+outcome k c kept = record { answered = answer k c; chip = kept; store = store_after k c; out = out_after k c }
+
 -- the outcomes of calls in turn, the first on the chip c. After each call the host keeps `keep` of the chip, and lends this to the next
 abbrev pub outcomes : (keep : Ds3231 → Ds3231) → Ds3231 → List Call → List Outcome
 outcomes keep c [] = []
 outcomes keep c (k ∷ ks) =
     let kept = keep (chip_after k c) in
-    record { answered = answer k c; chip = kept; store = store_after k c; out = out_after k c } ∷ outcomes keep kept ks
+    outcome k c kept ∷ outcomes keep kept ks
 
 -- ---- what is claimed of a chip c
 

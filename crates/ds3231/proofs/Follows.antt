@@ -104,7 +104,7 @@ candidates = 0 ∷ 1 ∷ 2 ∷ 3 ∷ 4 ∷ 5 ∷ 6 ∷ []
 
 -- the offset: computed at each remainder of the day and each weekday
 offsets : ℕ → Claim
-offsets k = eq (first_offset candidates (k / 7) (k % 7 + 1)) ((k % 7 + 1 + 6 + 7 - k / 7 % 7) % 7)
+offsets k = eq (first_offset candidates (k / 7) (k % 7 + 1)) (offset_for (k % 7 + 1) (k / 7))
 
 -- a day and its remainder have the same offset
 offset_of : (os : List ℕ) (d w : ℕ) → first_offset os d w ≡ first_offset os (d % 7) w
@@ -113,8 +113,9 @@ offset_of (o ∷ os) d w =
     let e : (d + o) % 7 ≡ (d % 7 + o) % 7 = omega arith in
     ap₂ (λ (x y : ℕ). if eqb (x + 1) w then o else y) e (offset_of os d w)
 
-twice : (d : ℕ) → d % 7 % 7 ≡ d % 7
-twice d = omega arith
+offset_for_rest : (w d : ℕ) → offset_for w (d % 7) ≡ offset_for w d
+unfolding offset_for
+offset_for_rest w d = omega arith
 
 pub offset_same : (d w : ℕ) → InWeek w → offset_with d w ≡ offset_for w d
 unfolding offset_with offset_for offsets
@@ -123,7 +124,7 @@ offset_same d w h =
     let p : k / 7 ≡ d % 7 = omega arith in
     let q : k % 7 + 1 ≡ w = omega arith in
     let c = each offsets 0 49 tt k (omega arith) (omega arith) in
-    offset_of candidates d w ∙ ap₂ (λ (x y : ℕ). first_offset candidates x y) (sym p) (sym q) ∙ c ∙ ap₂ (λ (x y : ℕ). (y + 6 + 7 - x % 7) % 7) p q ∙ ap (λ (x : ℕ). (w + 6 + 7 - x) % 7) (twice d)
+    offset_of candidates d w ∙ ap₂ (λ (x y : ℕ). first_offset candidates x y) (sym p) (sym q) ∙ c ∙ ap₂ (λ (x y : ℕ). offset_for y x) p q ∙ offset_for_rest w d
 
 -- with its offset the day has the weekday
 pub offset_gives : (d w : ℕ) → InWeek w → weekday_for d (offset_for w d) ≡ w

@@ -14,7 +14,8 @@ use Rattle.ds3231.specs.EightBits.{with_offset, in_eight_bits, of_any_width, Out
 use Rattle.ds3231.specs.declared.Ds3231.{Ds3231}
 use Rattle.ds3231.proofs.Facts.{same_test, sound_test, sound_fact}
 use Rattle.ds3231.proofs.Sounds.{sound_kept, sound_run}
-use Rattle.ds3231.proofs.ExactTime.{verdict_by, power_on_sound}
+use Rattle.ds3231.proofs.PowersOn.{power_on_sound}
+use Rattle.ds3231.proofs.ExactTime.{verdict_by}
 
 -- ---- a sound chip
 

@@ -9,12 +9,11 @@ use native.Mathlib.Omega.{arith}
 use lib.Dec.{leb, eqb}
 use lib.ListN.{length}
 use Rattle.refusals.specs.Numbered.{Numbered, accepted, refused, and_then, unless}
-use Rattle.refusals.proofs.Checks.{never}
 use Rattle.std.specs.Prelude.{if◌then◌else◌, Option, Some, None}
 use Rattle.computed.specs.Entries.{At, entry}
 use Rattle.computed.proofs.Choice.{chosen}
-use Rattle.calendar.specs.Stated.{InRange, checked, seconds_of}
-use Rattle.calendar.proofs.Laws.{accepted_in_range, time_in_range, seconds_of_time, weekday_formula}
+use Rattle.calendar.specs.Stated.{InRange, seconds_of}
+use Rattle.calendar.proofs.Laws.{time_in_range, seconds_of_time, weekday_formula}
 use Rattle.fields.proofs.Laws.{seven_bytes}
 use Rattle.diagnostics.specs.declared.I2cDiagnostic.{I2cDiagnostic}
 use Rattle.ds3231.specs.Clock.{seconds_at}
@@ -22,7 +21,7 @@ use Rattle.ds3231.specs.Map.{number_of, named}
 use Rattle.ds3231.specs.Changed.{offset_for, next_pointer}
 use Rattle.ds3231.specs.Timing.{shown_at, latch, pointed, pointed_by}
 use Rattle.ds3231.specs.Registers.{byte_at}
-use Rattle.ds3231.specs.Calls.{in_quarters, sound, timing_on, chip_on, checked_quarters, power_on, shown_time, register_byte, register_answer, written, has_read, step, step_chip, replied, Call, bus, taking, lent_store, too_short, verdict, chip_by, chip_after, answered_by, answer}
+use Rattle.ds3231.specs.Calls.{sound, timing_on, chip_on, power_on, shown_time, register_byte, register_answer, written, has_read, step, step_chip, replied, Call, bus, taking, lent_store, too_short, verdict, chip_by, chip_after, answered_by, answer}
 use Rattle.ds3231.specs.Model.{Stage, reads, Model, is_reads, model_on}
 use Rattle.ds3231.specs.Exact.{events_by, events, fully_lent, model_after, instant, NeverFall, last_instant, Watched, marks, watched_by, watched, after, TimeRead, answer_to, Holds, ExactTime}
 use Rattle.ds3231.specs.Total.{chip_after_all}
@@ -35,9 +34,10 @@ use Rattle.ds3231.specs.declared.Event.{Event}
 use Rattle.ds3231.specs.declared.Event.TheVariants.{Start, Write, Read, Stop}
 use Rattle.ds3231.specs.declared.Reply.TheVariants.{Byte}
 use Rattle.ds3231.specs.declared.Ds3231Config.{Ds3231Config}
-use Rattle.ds3231.proofs.Facts.{Sound, sound_test}
+use Rattle.ds3231.proofs.Facts.{ConfigIn, Sound, sound_test}
 use Rattle.ds3231.proofs.Bytes.{seconds_in}
 use Rattle.ds3231.proofs.Sounds.{call_sound, after_sound, on_sound}
+use Rattle.ds3231.proofs.PowersOn.{on_chip}
 use Rattle.ds3231.proofs.Map.{names_one}
 use Rattle.ds3231.proofs.RegisterBytes.{looked_up, time_entry}
 use Rattle.ds3231.proofs.NeverRefused.{asked}
@@ -66,7 +66,7 @@ taking_feed : (v : Numbered (Unit {0})) (s o : List I2cDiagnostic) (es : List Ev
 taking_feed (accepted u) s o es = refl
 taking_feed (refused n vs) s o es = refl
 
-feed_run : (ks : List Call) (c : Ds3231) → Sound c → events c ks ≡ fully_lent ks
+pub feed_run : (ks : List Call) (c : Ds3231) → Sound c → events c ks ≡ fully_lent ks
 feed_run [] c h = refl
 feed_run (bus s e ∷ ks) c h =
     ap₂ (λ (v : Numbered (Unit {0})) (es : List Event). events_by v (bus s e) es) (verdict_is (bus s e) c h)
@@ -210,42 +210,29 @@ on_follows f =
     same : (l : List ℕ) → l ≡ l
     same l = refl
 
--- a power-on that is not refused
-pub record On (f : Ds3231Config) (c₀ : Ds3231) : Type 0 where
-  pub in_range : InRange f.start
-  pub quarters : in_quarters f.temperature_quarters ≡ true
-  pub is : chip_on f ≡ c₀
-
-power_by : (f : Ds3231Config) (c₀ : Ds3231) (v : Numbered (Unit {0})) (b : Bool) → checked f.start ≡ v → in_quarters f.temperature_quarters ≡ b
-    → and_then v (and_then (if b then accepted tt else refused 7 (f.temperature_quarters ∷ [])) (accepted (chip_on f))) ≡ accepted c₀ → On f c₀
-power_by f c₀ (refused n vs) b e q h = never h
-power_by f c₀ (accepted u) true e q h = record { in_range = accepted_in_range f.start e; quarters = q; is = cc }
-power_by f c₀ (accepted u) false e q h = never h
-
-pub on_by : (f : Ds3231Config) (c₀ : Ds3231) → power_on f ≡ accepted c₀ → On f c₀
-unfolding checked_quarters
-on_by f c₀ e = power_by f c₀ (checked f.start) (in_quarters f.temperature_quarters) refl refl e
-
-pub power_on_sound : (f : Ds3231Config) (c₀ : Ds3231) → power_on f ≡ accepted c₀ → sound c₀ ≡ true
-power_on_sound f c₀ e =
-    let o = on_by f c₀ e in
-    subst (λ (c : Ds3231). sound c ≡ true) o.is (sound_test (chip_on f) (on_sound f o.in_range o.quarters))
-
 -- document 01, 'Register bytes': power-on sets the offset to 5
 pub power_on_offset : (f : Ds3231Config) (c₀ : Ds3231) → power_on f ≡ accepted c₀ → c₀.timing.clock.weekday_offset ≡ 5
-power_on_offset f c₀ e = ap (λ (c : Ds3231). c.timing.clock.weekday_offset) (sym (on_by f c₀ e).is) ∙ sym (power_offset _ _ (weekday_formula f.start))
+power_on_offset f c₀ e = on_chip (λ (c : Ds3231). c.timing.clock.weekday_offset ≡ 5) f c₀ e (λ i. sym (power_offset _ _ (weekday_formula f.start)))
 
 -- ---- the claim
 
 -- what a READ answers, once the chip is known to be addressed for reading
-read_answer : (s : List I2cDiagnostic) (k : Bool) (t : ℕ) (c : Ds3231) → verdict (bus s (Read k t)) c ≡ accepted tt → c.timing.phase ≡ Reading
+pub read_answer : (s : List I2cDiagnostic) (k : Bool) (t : ℕ) (c : Ds3231) → verdict (bus s (Read k t)) c ≡ accepted tt → c.timing.phase ≡ Reading
     → answer (bus s (Read k t)) c ≡ accepted (replied (Byte (byte_at c.timing.latched c.registers c.timing.pointer t)))
 read_answer s k t c v p =
     ap (λ (x : Numbered (Unit {0})). and_then x (accepted (answered_by (bus s (Read k t)) c))) v
     ∙ ap (λ (x : Phase). accepted (replied (has_read x t c).reply)) p
 
+-- the model stands in `reads` where the chip is addressed for reading
+pub reading_phase : (p : Phase) → stage_of p ≡ reads → p ≡ Reading
+reading_phase Reading e = refl
+reading_phase Released e = cc
+reading_phase Pointer e = cc
+reading_phase Writing e = cc
+reading_phase Ignoring e = cc
+
 -- what `register` answers at the number of a register of a sound chip
-register_answer_lem : (c : Ds3231) (r : Register) (n t : ℕ) → Sound c → n ≡ number_of r → register_answer c n t ≡ accepted (byte_at (shown_at c.timing t) c.registers r t)
+pub register_answer_lem : (c : Ds3231) (r : Register) (n t : ℕ) → Sound c → n ≡ number_of r → register_answer c n t ≡ accepted (byte_at (shown_at c.timing t) c.registers r t)
 register_answer_lem c r n t w e = asked c (register_byte (named n) c t) (sound_test c w) ∙ ap (λ (d : Option Register). register_byte d c t) (names_one n (Some r) (sym e))
 
 -- what `now` shows is valid, and its seconds are the clock's
@@ -255,7 +242,7 @@ shown_valid c t = time_in_range (seconds_at c.timing.clock t) (seconds_in c.timi
 shown_seconds : (c : Ds3231) (t : ℕ) → seconds_of (shown_time c t) ≡ seconds_at c.timing.clock t
 shown_seconds c t = seconds_of_time (seconds_at c.timing.clock t)
 
-module _ (f : Ds3231Config) (v : InRange f.start) (q : in_quarters f.temperature_quarters ≡ true) where
+module _ (f : Ds3231Config) (i : ConfigIn f) where
   abbrev c₀ : Ds3231
   c₀ = chip_on f
 
@@ -263,10 +250,10 @@ module _ (f : Ds3231Config) (v : InRange f.start) (q : in_quarters f.temperature
   watched_on = record { chip = c₀; model = model_on f; marked = c₀; at = 0 }
 
   stands : (calls : List Call) → Stands (after f c₀ calls)
-  stands calls = stands_run calls watched_on (record { place = record { stage = refl; pointer = refl }; shown = refl; sound_chip = on_sound f v q; sound_mark = on_sound f v q })
+  stands calls = stands_run calls watched_on (record { place = record { stage = refl; pointer = refl }; shown = refl; sound_chip = on_sound f i; sound_mark = on_sound f i })
 
   follows : (calls : List Call) → NeverFall 0 (events c₀ calls) → Follows (after f c₀ calls).chip.timing (after f c₀ calls).model (last_instant 0 (events c₀ calls))
-  follows calls h = follows_run calls watched_on 0 (on_sound f v q) (on_follows f) h
+  follows calls h = follows_run calls watched_on 0 (on_sound f i) (on_follows f) h
 
   never_before : (calls before more : List Call) → calls ≡ before ++ more → NeverFall 0 (events c₀ calls) → NeverFall 0 (events c₀ before)
   never_before calls before more e h =
@@ -278,13 +265,6 @@ module _ (f : Ds3231Config) (v : InRange f.start) (q : in_quarters f.temperature
   answers calls r =
       let c = (after f c₀ r.before).chip in
       read_answer r.store r.acknowledged r.at c r.not_refused (reading_phase c.timing.phase (sym (stands r.before).place.stage ∙ r.reading))
-    where
-      reading_phase : (p : Phase) → stage_of p ≡ reads → p ≡ Reading
-      reading_phase Reading e = refl
-      reading_phase Released e = cc
-      reading_phase Pointer e = cc
-      reading_phase Writing e = cc
-      reading_phase Ignoring e = cc
 
   time_register : (calls : List Call) (r : TimeRead f c₀ calls) → number_of (after f c₀ r.before).chip.timing.pointer ≤ 0x06
   time_register calls r = subst (λ (x : ℕ). x ≤ 0x06) (stands r.before).place.pointer r.at_time
@@ -292,8 +272,8 @@ module _ (f : Ds3231Config) (v : InRange f.start) (q : in_quarters f.temperature
   holds : (calls : List Call) → Holds f c₀ calls
   holds calls =
       record {
-        feed = feed_run calls c₀ (on_sound f v q);
-        fed_alone = fed_events calls watched_on ∙ ap (model_after (model_on f)) (feed_run calls c₀ (on_sound f v q));
+        feed = feed_run calls c₀ (on_sound f i);
+        fed_alone = fed_events calls watched_on ∙ ap (model_after (model_on f)) (feed_run calls c₀ (on_sound f i));
         answers_register = λ r.
             let w = after f c₀ r.before in
             let s = stands r.before in
@@ -330,11 +310,7 @@ module _ (f : Ds3231Config) (v : InRange f.start) (q : in_quarters f.temperature
 
 -- the chip after any calls is sound
 pub after_power_on : (f : Ds3231Config) (c₀ : Ds3231) → power_on f ≡ accepted c₀ → (calls : List Call) → Sound (after f c₀ calls).chip
-after_power_on f c₀ e calls =
-    let o = on_by f c₀ e in
-    subst (λ (c : Ds3231). Sound (after f c calls).chip) o.is (stands f o.in_range o.quarters calls).sound_chip
+after_power_on f c₀ e calls = on_chip (λ (c : Ds3231). Sound (after f c calls).chip) f c₀ e (λ i. (stands f i calls).sound_chip)
 
 pub exact_time : ExactTime
-exact_time f c₀ e calls =
-    let o = on_by f c₀ e in
-    subst (λ (c : Ds3231). Holds f c calls) o.is (holds f o.in_range o.quarters calls)
+exact_time f c₀ e calls = on_chip (λ (c : Ds3231). Holds f c calls) f c₀ e (λ i. holds f i calls)

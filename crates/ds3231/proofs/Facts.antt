@@ -14,11 +14,12 @@ use Rattle.calendar.specs.Stated.{InRange, with_day, checked}
 use Rattle.calendar.proofs.Laws.{in_range_accepted, accepted_in_range, month_bounds}
 use Rattle.calendar.specs.declared.DateTime.{DateTime}
 use Rattle.ds3231.specs.Numbers.{range}
-use Rattle.ds3231.specs.Calls.{sound_time, sound_pending, sound_if_pending, sound_timing, in_quarters, sound_registers, sound}
+use Rattle.ds3231.specs.Calls.{sound_time, sound_pending, sound_if_pending, sound_timing, in_quarters, in_conversion_times, sound_registers, sound}
 use Rattle.ds3231.specs.declared.PendingTime.{PendingTime}
 use Rattle.ds3231.specs.declared.Timing.{Timing}
 use Rattle.ds3231.specs.declared.Registers.{Registers}
 use Rattle.ds3231.specs.declared.Ds3231.{Ds3231}
+use Rattle.ds3231.specs.declared.Ds3231Config.{Ds3231Config}
 
 -- ---- soundness as facts
 
@@ -50,11 +51,18 @@ pub record RegistersIn (g : Registers) : Type 0 where
   pub quarters : in_quarters g.temperature_quarters ≡ true
   pub control : bit_and g.control 0x20 ≡ 0
   pub status : bit_and g.status 0x8B ≡ g.status
+  pub conversion : in_conversion_times g.conversion_nanos ≡ true
 
 pub record Sound (c : Ds3231) : Type 0 where
   pub timing : TimingIn c.timing
   pub registers : RegistersIn c.registers
   pub waiting : c.diagnostics.waiting ≤ 256
+
+-- a configuration that power-on does not refuse
+pub record ConfigIn (f : Ds3231Config) : Type 0 where
+  pub start : InRange f.start
+  pub quarters : in_quarters f.temperature_quarters ≡ true
+  pub conversion : in_conversion_times f.conversion_nanos ≡ true
 
 -- from the facts to the test
 
@@ -118,7 +126,7 @@ sound_test c h =
     let g = h.registers in
     both_true _ _ (both_true _ _
     (both_true _ _ (both_true _ _ (lt-ltb _ _ t.base) (le-leb _ _ (omega (arith, t.offset)))) (pending_test c.timing.pending t.pending))
-    (both_true _ _ (both_true _ _ g.quarters (eq-eqb _ _ g.control)) (eq-eqb _ _ g.status)))
+    (both_true _ _ (both_true _ _ (both_true _ _ g.quarters (eq-eqb _ _ g.control)) (eq-eqb _ _ g.status)) g.conversion))
     (le-leb _ _ h.waiting)
 
 -- and back
@@ -153,10 +161,11 @@ sound_fact c e =
     let b = both (sound_timing c.timing) (sound_registers c.registers) a.0 in
     let p = both _ (sound_if_pending c.timing.pending) b.0 in
     let o = both (ltb c.timing.clock.base_seconds range) _ p.0 in
-    let s = both _ (eqb (bit_and c.registers.status 0x8B) c.registers.status) b.1 in
+    let n = both _ _ b.1 in
+    let s = both _ (eqb (bit_and c.registers.status 0x8B) c.registers.status) n.0 in
     let r = both (in_quarters c.registers.temperature_quarters) (eqb (bit_and c.registers.control 0x20) 0) s.0 in
     record {
       timing = record { base = ltb-true _ _ o.0; offset = omega (arith, leb-true _ _ o.1); pending = pending_fact c.timing.pending p.1 };
-      registers = record { quarters = r.0; control = eqb-true _ _ r.1; status = eqb-true _ _ s.1 };
+      registers = record { quarters = r.0; control = eqb-true _ _ r.1; status = eqb-true _ _ s.1; conversion = n.1 };
       waiting = leb-true _ _ a.1;
     }

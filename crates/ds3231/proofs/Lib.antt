@@ -7,9 +7,11 @@ pub mod RegisterBytes
 pub mod Places
 pub mod Follows
 pub mod Sounds
+pub mod PowersOn
 pub mod NeverRefused
 pub mod ExactTime
 pub mod ReportTotal
 pub mod EightBits
+pub mod ConversionTime
 pub mod Witness
 pub mod Examples

@@ -17,7 +17,7 @@ use Rattle.std.specs.Prelude.{if◌then◌else◌, Option, Some, None}
 use Rattle.computed.specs.Entries.{entry}
 use Rattle.computed.proofs.Choice.{chosen}
 use Rattle.computed.proofs.Claim.{le, each}
-use Rattle.calendar.specs.Stated.{InRange, checked_seconds, time_of}
+use Rattle.calendar.specs.Stated.{checked_seconds, time_of}
 use Rattle.calendar.specs.declared.DateTime.{DateTime}
 use Rattle.calendar.proofs.Laws.{seconds_accepted, time_in_range}
 use Rattle.fields.proofs.Laws.{time_byte_below}
@@ -26,10 +26,10 @@ use Rattle.ds3231.specs.Map.{number_of, Names, named}
 use Rattle.ds3231.specs.Clock.{seconds_at}
 use Rattle.ds3231.specs.Timing.{shown_at}
 use Rattle.ds3231.specs.Registers.{converting, low_byte, temperature_high, temperature_low, byte_at}
-use Rattle.ds3231.specs.Calls.{in_quarters, sound, registers_on, chip_on, checked_chip, shown_time, now_answer, register_byte, register_answer}
+use Rattle.ds3231.specs.Calls.{sound, registers_on, chip_on, checked_chip, shown_time, now_answer, register_byte, register_answer}
 use Rattle.ds3231.proofs.Map.{named_names}
 use Rattle.ds3231.proofs.Bytes.{seconds_in, weekday_shown}
-use Rattle.ds3231.proofs.Facts.{sound_test}
+use Rattle.ds3231.proofs.Facts.{ConfigIn, sound_test}
 use Rattle.ds3231.proofs.Sounds.{on_sound}
 
 -- what a call that asks answers on a sound chip
@@ -154,5 +154,5 @@ register_has_byte c e f t n h = by (named n) (named_names n) refl
     by None p q = absurd (omega arith)
 
 -- the chip of a power-on that is not refused meets both conditions
-pub on_has_byte : (f : Ds3231Config) → InRange f.start → in_quarters f.temperature_quarters ≡ true → (t n : ℕ) → n ≤ 0x12 → HasByte (chip_on f) n t
-on_has_byte f v q = register_has_byte (chip_on f) (sound_test (chip_on f) (on_sound f v q)) (fitting_on f)
+pub on_has_byte : (f : Ds3231Config) → ConfigIn f → (t n : ℕ) → n ≤ 0x12 → HasByte (chip_on f) n t
+on_has_byte f h = register_has_byte (chip_on f) (sound_test (chip_on f) (on_sound f h)) (fitting_on f)

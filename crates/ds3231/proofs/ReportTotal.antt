@@ -2,14 +2,14 @@
 -- Assumes nothing.
 use Prim.Native.Nat.{◌+◌, ◌^◌, ◌≤◌, ◌<◌}
 use mathlib.Core.List.{List, [], ◌∷◌}
-use mathlib.Core.Path.{◌≡◌, sym, ap}
+use mathlib.Core.Path.{◌≡◌, refl}
 use native.Mathlib.Omega.{arith}
 use Rattle.refusals.specs.Numbered.{Numbered, accepted, refused, and_then, unless}
 use Rattle.diagnostics.proofs.Counts.{adds_all}
 use Rattle.ds3231.specs.Calls.{step, Call, bus, taking, chip_by, verdict, chip_after, answered_by}
 use Rattle.ds3231.specs.Total.{chip_after_all, reports_by, reported, taken_of, taken, ReportTotal}
 use Rattle.ds3231.specs.declared.Ds3231.{Ds3231}
-use Rattle.ds3231.proofs.ExactTime.{on_by}
+use Rattle.ds3231.proofs.PowersOn.{on_chip}
 
 -- one call
 call_adds : (v : Numbered (Unit {0})) (k : Call) (c : Ds3231) → c.diagnostics.dropped + reports_by v k c < 2 ^ 64
@@ -33,7 +33,6 @@ run_adds (k ∷ ks) c h =
 
 pub report_total : ReportTotal
 report_total f c₀ e calls h =
-    let o = on_by f c₀ e in
-    let w : c₀.diagnostics.waiting ≡ 0 = ap (λ (c : Ds3231). c.diagnostics.waiting) (sym o.is) in
-    let d : c₀.diagnostics.dropped ≡ 0 = ap (λ (c : Ds3231). c.diagnostics.dropped) (sym o.is) in
+    let w = on_chip (λ (c : Ds3231). c.diagnostics.waiting ≡ 0) f c₀ e (λ i. refl) in
+    let d = on_chip (λ (c : Ds3231). c.diagnostics.dropped ≡ 0) f c₀ e (λ i. refl) in
     omega (arith, run_adds calls c₀ (omega arith))

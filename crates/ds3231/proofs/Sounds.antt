@@ -10,7 +10,6 @@ use lib.Bits.{bit_and}
 use Rattle.refusals.specs.Numbered.{Numbered, accepted, refused, unless}
 use Rattle.std.specs.Prelude.{if◌then◌else◌, Option, Some, None}
 use Rattle.computed.proofs.Choice.{chosen}
-use Rattle.calendar.specs.Stated.{InRange}
 use Rattle.calendar.proofs.Laws.{time_in_range, seconds_below, nearest_in_range}
 use Rattle.fields.specs.Table.{Meaning, meaning}
 use Rattle.diagnostics.proofs.Counts.{counted_all_in}
@@ -19,7 +18,7 @@ use Rattle.ds3231.specs.Clock.{seconds_at}
 use Rattle.ds3231.specs.Timing.{is_defined, opened, found, committed_clock, noted, pointed_by, commit, accept}
 use Rattle.ds3231.specs.Map.{number_of, named}
 use Rattle.ds3231.specs.Registers.{registers_written}
-use Rattle.ds3231.specs.Calls.{in_quarters, sound, chip_on, Step, written, has_read, step, step_chip, Call, bus, taking, chip_by, verdict, chip_after}
+use Rattle.ds3231.specs.Calls.{sound, chip_on, Step, written, has_read, step, step_chip, Call, bus, taking, chip_by, verdict, chip_after}
 use Rattle.ds3231.specs.Total.{chip_after_all}
 use Rattle.ds3231.specs.Types.{PendingTime, Register}
 use Rattle.ds3231.specs.declared.Clock.{Clock}
@@ -32,7 +31,7 @@ use Rattle.ds3231.specs.declared.Event.{Event}
 use Rattle.ds3231.specs.declared.Event.TheVariants.{Start, Write, Read, Stop}
 use Rattle.ds3231.specs.declared.Ds3231Config.{Ds3231Config}
 use Rattle.ds3231.proofs.Masks.{control_clear, status_within}
-use Rattle.ds3231.proofs.Facts.{PendingIn, HasPending, TimingIn, RegistersIn, Sound, sound_test, sound_fact}
+use Rattle.ds3231.proofs.Facts.{PendingIn, HasPending, TimingIn, RegistersIn, ConfigIn, Sound, sound_test, sound_fact}
 use Rattle.ds3231.proofs.Bytes.{MeaningIn, meaning_in, noted_in, offset_in, seconds_in, weekday_shown, time_in}
 
 opened_in : (k : Clock) (t : ℕ) → PendingIn (opened k t)
@@ -67,10 +66,10 @@ accept_in m i t c h =
 
 others_in : (r b t : ℕ) (g : Registers) → RegistersIn g → RegistersIn (registers_written r b t g)
 others_in r b t g h =
-    chosen RegistersIn (leb 0x07 r && leb r 0x0D) (λ e. record { quarters = h.quarters; control = h.control; status = h.status })
-    (λ e. chosen RegistersIn (eqb r 0x0E) (λ e. record { quarters = h.quarters; control = control_clear b; status = h.status })
-    (λ e. chosen RegistersIn (eqb r 0x0F) (λ e. record { quarters = h.quarters; control = h.control; status = status_within (bit_and g.status b) b })
-    (λ e. chosen RegistersIn (eqb r 0x10) (λ e. record { quarters = h.quarters; control = h.control; status = h.status }) (λ e. h))))
+    chosen RegistersIn (leb 0x07 r && leb r 0x0D) (λ e. record { quarters = h.quarters; control = h.control; status = h.status; conversion = h.conversion })
+    (λ e. chosen RegistersIn (eqb r 0x0E) (λ e. record { quarters = h.quarters; control = control_clear b; status = h.status; conversion = h.conversion })
+    (λ e. chosen RegistersIn (eqb r 0x0F) (λ e. record { quarters = h.quarters; control = h.control; status = status_within (bit_and g.status b) b; conversion = h.conversion })
+    (λ e. chosen RegistersIn (eqb r 0x10) (λ e. record { quarters = h.quarters; control = h.control; status = h.status; conversion = h.conversion }) (λ e. h))))
 
 -- ---- the events
 
@@ -139,10 +138,10 @@ sound_run (k ∷ ks) c e = sound_run ks (chip_after k c) (sound_kept k c e)
 
 -- ---- power-on gives a sound chip
 
-pub on_sound : (f : Ds3231Config) → InRange f.start → in_quarters f.temperature_quarters ≡ true → Sound (chip_on f)
-on_sound f v q =
+pub on_sound : (f : Ds3231Config) → ConfigIn f → Sound (chip_on f)
+on_sound f h =
     record {
-      timing = record { base = seconds_below f.start v; offset = offset_in _ _; pending = tt };
-      registers = record { quarters = q; control = refl; status = chosen (λ x. bit_and x 0x8B ≡ x) f.oscillator_stopped (λ e. refl) (λ e. refl) };
+      timing = record { base = seconds_below f.start h.start; offset = offset_in _ _; pending = tt };
+      registers = record { quarters = h.quarters; control = refl; status = chosen (λ x. bit_and x 0x8B ≡ x) f.oscillator_stopped (λ e. refl) (λ e. refl); conversion = h.conversion };
       waiting = omega arith;
     }

@@ -22,7 +22,7 @@ use Rattle.diagnostics.specs.declared.ChipName.TheVariants.{Ds3231}
 use Rattle.diagnostics.specs.declared.I2cDiagnostic.{I2cDiagnostic}
 use Rattle.diagnostics.specs.declared.I2cDiagnosticKind.TheVariants.{ReadOnly}
 use Rattle.ds3231.specs.Numbers.{nanos, range, day}
-use Rattle.ds3231.specs.Calls.{in_quarters, checked_quarters, chip_on, default_config, power_on, replied, Call, bus, taking, lent_store, too_short, verdict}
+use Rattle.ds3231.specs.Calls.{chip_on, default_config, power_on, replied, Call, bus, taking, lent_store, too_short, verdict}
 use Rattle.ds3231.specs.Model.{reads, Model, exact, date_with, clamped, offset_with, wraps, model_on}
 use Rattle.ds3231.proofs.Follows.{offset_same, offset_gives}
 use Rattle.ds3231.specs.Exact.{events, fully_lent, model_after, after, TimeRead, answer_to, NeverFall, instant}
@@ -31,6 +31,7 @@ use Rattle.ds3231.specs.declared.Event.{Event}
 use Rattle.ds3231.specs.declared.Event.TheVariants.{Start, Write, Read, Stop}
 use Rattle.ds3231.specs.declared.Reply.TheVariants.{Byte}
 use Rattle.ds3231.proofs.Counting.{whole_count}
+use Rattle.ds3231.proofs.PowersOn.{default_on}
 use Rattle.ds3231.proofs.ExactTime.{verdict_is, after_power_on, exact_time}
 use Rattle.computed.proofs.Claim.{first, rest}
 
@@ -86,8 +87,8 @@ start_in : InRange (date_time 2026 1 1 0 0 0)
 start_in = omega (arith, month_bounds 2026 1)
 
 on : power_on config ≡ accepted (chip_on config)
-unfolding config checked_quarters in_quarters
-on = rw (in_range_accepted (date_time 2026 1 1 0 0 0) start_in)
+unfolding config
+on = default_on
 
 -- its seconds, from document 01's example
 seconds_on : seconds_of (date_time 2026 1 1 0 0 0) ≡ 820_540_800

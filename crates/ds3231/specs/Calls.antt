@@ -40,10 +40,15 @@ sound_timing c =
 unfoldable pub in_quarters : ℤ → Bool
 in_quarters q = le_z (negsuc 511) q && le_z q (pos 511)
 
--- 'The table of refusals': quarters in range, control bit 5 clear, status within 0x8B
+-- Order 2 of document 02: a conversion time is 125,000,000 to 200,000,000 nanoseconds, both ends legal
+unfoldable pub in_conversion_times : ℕ → Bool
+in_conversion_times n = leb 125_000_000 n && leb n 200_000_000
+
+-- 'The table of refusals': quarters in range, control bit 5 clear, status within 0x8B. Order 2 of document 02: and the conversion time in range
 unfoldable pub sound_registers : Registers → Bool
 sound_registers g =
     in_quarters g.temperature_quarters && eqb (bit_and g.control 0x20) 0 && eqb (bit_and g.status 0x8B) g.status
+    && in_conversion_times g.conversion_nanos
 
 -- 'The table of refusals': and at most 256 waiting
 unfoldable pub sound : Ds3231 → Bool
@@ -58,13 +63,14 @@ timing_from k = latch 0 (record { phase = Released; pointer = Seconds; clock = k
 abbrev pub timing_on : Ds3231Config → Timing
 timing_on f = timing_from (clock_set f.start (weekday_of f.start) 0)
 
--- 'Register bytes': control 0x1C, status 0x08, or 0x88 where the oscillator had stopped; alarms and aging 0
+-- 'Register bytes': control 0x1C, status 0x08, or 0x88 where the oscillator had stopped; alarms and aging 0. Order 2 of document 02: power-on takes the conversion time, and the chip keeps it
 abbrev pub registers_on : Ds3231Config → Registers
 registers_on f = record {
   alarms = replicate 7 0;
   control = 0x1C;
   status = if f.oscillator_stopped then 0x88 else 0x08;
   conversion_end = None;
+  conversion_nanos = f.conversion_nanos;
   aging = 0;
   temperature_quarters = f.temperature_quarters;
   int_sqw_reported = false;
@@ -73,17 +79,22 @@ registers_on f = record {
 abbrev pub chip_on : Ds3231Config → Ds3231
 chip_on f = record { timing = timing_on f; registers = registers_on f; diagnostics = record { waiting = 0; dropped = 0 } }
 
--- 'Script answers': power-on (2026-01-01T00:00:00, oscillator not stopped, 100 quarters)
+-- 'Script answers': power-on (2026-01-01T00:00:00, oscillator not stopped, 100 quarters). Order 2 of document 02: `clockrun` and the host's run keep 200,000,000
 abbrev pub default_config : Ds3231Config
-default_config = record { start = date_time 2026 1 1 0 0 0; oscillator_stopped = false; temperature_quarters = pos 100 }
+default_config = record { start = date_time 2026 1 1 0 0 0; oscillator_stopped = false; temperature_quarters = pos 100; conversion_nanos = 200_000_000 }
 
 -- 'The table of refusals': 7, quarters outside −512 to 511
 unfoldable pub checked_quarters : ℤ → Numbered (Unit {0})
 checked_quarters q = if in_quarters q then accepted tt else refused 7 (q ∷ [])
 
--- 'The table of refusals': power-on 1 to 7
+-- Order 2 of document 02: 22, a time outside 125,000,000 to 200,000,000, with no values
+unfoldable pub checked_conversion : ℕ → Numbered (Unit {0})
+checked_conversion n = if in_conversion_times n then accepted tt else refused 22 []
+
+-- 'The table of refusals': power-on 1 to 7. Order 2 of document 02: 22 after 7
 abbrev pub power_on : Ds3231Config → Numbered Ds3231
-power_on f = and_then (checked f.start) (and_then (checked_quarters f.temperature_quarters) (accepted (chip_on f)))
+power_on f =
+    and_then (checked f.start) (and_then (checked_quarters f.temperature_quarters) (and_then (checked_conversion f.conversion_nanos) (accepted (chip_on f))))
 
 -- ---- the calls that ask
 

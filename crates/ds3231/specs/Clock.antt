@@ -14,7 +14,7 @@ elapsed k t = (t - k.base_at) / nanos
 abbrev pub seconds_at : Clock → ℕ → ℕ
 seconds_at k t = (k.base_seconds + elapsed k t) % range
 
--- the time that it shows: the conversion of its seconds is never refused (`conversion_never_refused` of proofs/NeverRefused.antt)
+-- the time that it shows: the conversion of its seconds to a date is never refused (`conversion_never_refused` of proofs/NeverRefused.antt)
 abbrev pub time_at : Clock → ℕ → DateTime
 time_at k t = time_of (seconds_at k t)
 

@@ -10,3 +10,4 @@ pub mod Model
 pub mod Exact
 pub mod Total
 pub mod EightBits
+pub mod ConversionTime

@@ -55,15 +55,16 @@ starts_conversion b t g = not (eqb (bit_and b 0x20) 0) && not (converting g t)
 
 -- 'Register bytes': an alarm byte as written, at place 0 to 6 of the seven
 abbrev pub alarm_written : ℕ → ℕ → Registers → Registers
-alarm_written i b g = record { alarms = set g.alarms i b; control = g.control; status = g.status; conversion_end = g.conversion_end; aging = g.aging; temperature_quarters = g.temperature_quarters; int_sqw_reported = g.int_sqw_reported }
+alarm_written i b g = record { alarms = set g.alarms i b; control = g.control; status = g.status; conversion_end = g.conversion_end; conversion_nanos = g.conversion_nanos; aging = g.aging; temperature_quarters = g.temperature_quarters; int_sqw_reported = g.int_sqw_reported }
 
--- 'Register bytes': control keeps the byte without bit 5; a conversion ends at its start plus 200,000,000, that sum saturating. 'Diagnostics': reported once per power-on
+-- 'Register bytes': control keeps the byte without bit 5; Order 2 of document 02: a conversion ends at its start plus the chip's conversion time, that sum saturating. 'Diagnostics': reported once per power-on
 abbrev pub control_written : ℕ → ℕ → Registers → Registers
 control_written b t g = record {
   alarms = g.alarms;
   control = bit_and b 0xDF;
   status = g.status;
-  conversion_end = if starts_conversion b t g then Some (min (t + 200_000_000) 0xFFFF_FFFF_FFFF_FFFF) else g.conversion_end;
+  conversion_end = if starts_conversion b t g then Some (min (t + g.conversion_nanos) 0xFFFF_FFFF_FFFF_FFFF) else g.conversion_end;
+  conversion_nanos = g.conversion_nanos;
   aging = g.aging;
   temperature_quarters = g.temperature_quarters;
   int_sqw_reported = enables_output b || g.int_sqw_reported;
@@ -71,11 +72,11 @@ control_written b t g = record {
 
 -- 'Register bytes': status after a write is (status & byte & 0x83) | (byte & 0x08)
 abbrev pub status_written : ℕ → Registers → Registers
-status_written b g = record { alarms = g.alarms; control = g.control; status = bit_or (bit_and (bit_and g.status b) 0x83) (bit_and b 0x08); conversion_end = g.conversion_end; aging = g.aging; temperature_quarters = g.temperature_quarters; int_sqw_reported = g.int_sqw_reported }
+status_written b g = record { alarms = g.alarms; control = g.control; status = bit_or (bit_and (bit_and g.status b) 0x83) (bit_and b 0x08); conversion_end = g.conversion_end; conversion_nanos = g.conversion_nanos; aging = g.aging; temperature_quarters = g.temperature_quarters; int_sqw_reported = g.int_sqw_reported }
 
 -- 'Register bytes': 0x10 aging, as written
 abbrev pub aging_written : ℕ → Registers → Registers
-aging_written b g = record { alarms = g.alarms; control = g.control; status = g.status; conversion_end = g.conversion_end; aging = b; temperature_quarters = g.temperature_quarters; int_sqw_reported = g.int_sqw_reported }
+aging_written b g = record { alarms = g.alarms; control = g.control; status = g.status; conversion_end = g.conversion_end; conversion_nanos = g.conversion_nanos; aging = b; temperature_quarters = g.temperature_quarters; int_sqw_reported = g.int_sqw_reported }
 
 -- a byte written at t to the register of number r, which is at most 0x12: 0x00 to 0x06, 0x11 and 0x12 change nothing here
 abbrev pub registers_written : ℕ → ℕ → ℕ → Registers → Registers

@@ -83,7 +83,8 @@ pub struct Timing {
     pub pointer: Register,
 }
 
-// The registers outside the time: control without bit 5 and status without bit 2, which read set while a conversion runs.
+// The registers outside the time: control without bit 5 and status without bit 2, which read set while a conversion runs; the end
+// of the last conversion, and how long each lasts.
 #[derive(Clone, Copy, Debug)]
 pub struct Registers {
     pub alarms: [u8; 7],
@@ -93,9 +94,10 @@ pub struct Registers {
     pub temperature_quarters: i16,
     pub int_sqw_reported: bool,
     pub conversion_end: Option<u64>,
+    pub conversion_nanos: u64,
 }
 
-// The DS3231 on an I2C bus, in 104 bytes: the fields of a struct lie in memory in the order of the source, which leaves few gaps.
+// The DS3231 on an I2C bus, in 112 bytes: the fields of a struct lie in memory in the order of the source, which leaves few gaps.
 // Its diagnostics wait in a store that each call is lent.
 #[derive(Clone, Copy, Debug)]
 pub struct Ds3231 {
@@ -104,15 +106,21 @@ pub struct Ds3231 {
     pub diagnostics: Diagnostics,
 }
 
-// What the clock holds at power-on.
+// What the clock holds at power-on. Its conversion time is that of the chip's lot: 125,000,000 to 200,000,000 nanoseconds.
 #[derive(Clone, Copy, Debug, PartialEq, Eq)]
 pub struct Ds3231Config {
     pub start: DateTime,
     pub oscillator_stopped: bool,
     pub temperature_quarters: i16,
+    pub conversion_nanos: u64,
 }
 
-// 2026-01-01T00:00:00, oscillator not stopped, 100 quarters.
+const NANOS_PER_MILLISECOND: u64 = 1_000_000;
+
+// The conversion time of a script's power-on.
+const CONVERSION_NANOS: u64 = 200 * NANOS_PER_MILLISECOND;
+
+// A script's power-on: 2026-01-01T00:00:00, oscillator not stopped, 100 quarters, conversions of 200 ms.
 impl Default for Ds3231Config {
     ghost is_default = { λ f. f ≡ default_config };
 
@@ -129,6 +137,7 @@ impl Default for Ds3231Config {
             start,
             oscillator_stopped: false,
             temperature_quarters: 100,
+            conversion_nanos: CONVERSION_NANOS,
         }
     }
 }

@@ -12,13 +12,16 @@ use Rattle.calendar.proofs.Lossless.{error_of}
 use Rattle.calendar.specs.declared.DateTimeError.TheVariants.{Year, Month, Day, Hour, Minute, Second}
 use Rattle.ds3231_chip.specs.Answers.{config_row, asked_row}
 use Rattle.ds3231_chip.specs.declared.power.Ds3231ConfigError.{Ds3231ConfigError}
-use Rattle.ds3231_chip.specs.declared.power.Ds3231ConfigError.TheVariants.{Start, Temperature}
+use Rattle.ds3231_chip.specs.declared.power.Ds3231ConfigError.TheVariants.{Start, Temperature, ConversionTime}
 use Rattle.ds3231_chip.specs.declared.ask.RegisterError.{RegisterError}
 use Rattle.ds3231_chip.specs.declared.ask.RegisterError.TheVariants.{NotSound, NoSuchRegister}
 
 -- power-on
 abbrev config_of : Row → Ds3231ConfigError
-config_of r = if eqb r.number 7 then Temperature (get_or r.values 0 (pos 0)) else Start (error_of r)
+config_of r =
+    if eqb r.number 7 then Temperature (get_or r.values 0 (pos 0))
+    else if eqb r.number 22 then ConversionTime
+    else Start (error_of r)
 
 config_back : (e : Ds3231ConfigError) → config_of (config_row e) ≡ e
 config_back (Start (Year y)) = refl
@@ -28,6 +31,7 @@ config_back (Start (Hour h)) = refl
 config_back (Start (Minute m)) = refl
 config_back (Start (Second s)) = refl
 config_back (Temperature q) = refl
+config_back ConversionTime = refl
 
 pub powered_lossless : {A : Type 0} (p q : Result A Ds3231ConfigError) → answered config_row p ≡ answered config_row q → p ≡ q
 powered_lossless = answered_lossless config_row (lossless config_row config_of config_back)

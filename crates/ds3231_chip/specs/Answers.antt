@@ -11,22 +11,23 @@ use Rattle.ds3231.specs.Numbers.{range}
 use Rattle.ds3231.specs.Calls.{sound}
 use Rattle.ds3231.specs.declared.Ds3231.{Ds3231}
 use Rattle.ds3231_chip.specs.declared.power.Ds3231ConfigError.{Ds3231ConfigError}
-use Rattle.ds3231_chip.specs.declared.power.Ds3231ConfigError.TheVariants.{Start, Temperature}
+use Rattle.ds3231_chip.specs.declared.power.Ds3231ConfigError.TheVariants.{Start, Temperature, ConversionTime}
 use Rattle.ds3231_chip.specs.declared.ask.RegisterError.{RegisterError}
 use Rattle.ds3231_chip.specs.declared.ask.RegisterError.TheVariants.{NotSound, NoSuchRegister}
 
 -- ---- power-on
 
--- 'The table of refusals': 1 to 6, and 7 with the quarters
+-- 'The table of refusals': 1 to 6, and 7 with the quarters. Order 2 of document 02: 22, with no values
 abbrev pub config_row : Ds3231ConfigError → Row
 config_row (Start e) = date_row e
 config_row (Temperature q) = record { number = 7; values = q ∷ [] }
+config_row ConversionTime = record { number = 22; values = [] }
 
--- a chip that is not sound, for a place that has none yet: its base seconds are out of range, and every call on it gives 10. What else it holds is left free
+-- a chip that is not sound, for a program's variable where power-on is refused or not yet called: its base seconds are out of range, and its conversion time too, so that every call on it gives 10 (`no_chip_not_sound` of proofs/PowerLaws.antt). The documents leave free what else it holds
 abbrev pub no_chip : Ds3231
 no_chip = record {
   timing = record { phase = Released; pointer = Seconds; clock = record { base_seconds = range; base_at = 0; weekday_offset = 0 }; twelve_hour = false; latched = replicate 7 0; pending = None; pending_at = 0 };
-  registers = record { alarms = replicate 7 0; control = 0; status = 0; conversion_end = None; aging = 0; temperature_quarters = pos 0; int_sqw_reported = false };
+  registers = record { alarms = replicate 7 0; control = 0; status = 0; conversion_end = None; conversion_nanos = 0; aging = 0; temperature_quarters = pos 0; int_sqw_reported = false };
   diagnostics = record { waiting = 0; dropped = 0 };
 }
 

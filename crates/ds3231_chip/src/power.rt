@@ -5,7 +5,7 @@ ghost use Rattle.ds3231.specs.Calls.{timing_from, registers_on, power_on};
 ghost use Rattle.ds3231_chip.specs.Answers.{config_row, no_chip};
 ghost use Rattle.ds3231_chip.specs.declared.power.Ds3231ConfigError.TheVariants.{Start};
 
-use crate::sound::in_quarters;
+use crate::sound::{in_conversion_times, in_quarters};
 use calendar::{DateTimeError, SECONDS_IN_RANGE};
 use diagnostics::Diagnostics;
 use ds3231::{Clock, Ds3231, Ds3231Config, Phase, Register, Registers, Timing};
@@ -23,6 +23,8 @@ pub enum Ds3231ConfigError {
     Start(DateTimeError),
     #[error("{0} quarters of a degree do not fit the DS3231's 10-bit temperature; give a temperature from −512 to 511 quarters (−128.00 to 127.75 °C)")]
     Temperature(i16),
+    #[error("the conversion time is outside the DS3231's 125 to 200 ms; give 125,000,000 to 200,000,000 nanoseconds")]
+    ConversionTime,
 }
 
 impl Refusal for Ds3231ConfigError {
@@ -32,6 +34,7 @@ impl Refusal for Ds3231ConfigError {
         match self {
             Ds3231ConfigError::Start(error) => error.number(),
             Ds3231ConfigError::Temperature(_) => 7,
+            Ds3231ConfigError::ConversionTime => 22,
         }
     }
 }
@@ -52,6 +55,9 @@ pub fn power_on(config: Ds3231Config) -> Result<Ds3231, Ds3231ConfigError>
     let weekday = config.start.weekday()?;
     if !in_quarters(config.temperature_quarters) {
         return Err(Ds3231ConfigError::Temperature(config.temperature_quarters));
+    }
+    if !in_conversion_times(config.conversion_nanos) {
+        return Err(Ds3231ConfigError::ConversionTime);
     }
     Ok(Ds3231 {
         timing: timing_from(clock::set(config.start, weekday, 0)),
@@ -82,6 +88,7 @@ fn registers_on(config: Ds3231Config) -> Registers
         control: CONTROL_POWER_ON,
         status: status_on(config.oscillator_stopped),
         conversion_end: None,
+        conversion_nanos: config.conversion_nanos,
         aging: 0,
         temperature_quarters: config.temperature_quarters,
         int_sqw_reported: false,
@@ -99,8 +106,9 @@ fn status_on(oscillator_stopped: bool) -> u8
     }
 }
 
-// A chip that is not sound, for a place that has none yet: its base seconds are out of range, and every call on it gives 10. With an
-// `Option` of a chip in that place each later call of a program would be an arm.
+// A chip that is not sound, for a program's variable where power-on is refused or not yet called: its base seconds and its
+// conversion time are out of range, and every call on it gives 10. With an `Option` of a chip there each later call of the program
+// would be an arm.
 pub fn no_chip() -> Ds3231
     ensures { result ≡ no_chip }
 {
@@ -123,6 +131,7 @@ pub fn no_chip() -> Ds3231
         control: 0,
         status: 0,
         conversion_end: None,
+        conversion_nanos: 0,
         aging: 0,
         temperature_quarters: 0,
         int_sqw_reported: false,

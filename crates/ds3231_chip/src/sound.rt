@@ -2,7 +2,7 @@
 ghost use Rattle.std.specs.Prelude.{◌≡◌};
 ghost use Rattle.refusals.specs.Numbered.{answered};
 ghost use Rattle.diagnostics.specs.Lent.{not_sound_row, lent_row};
-ghost use Rattle.ds3231.specs.Calls.{sound_time, sound_pending, sound_timing, in_quarters, sound_registers, sound, checked_chip};
+ghost use Rattle.ds3231.specs.Calls.{sound_time, sound_pending, sound_timing, in_quarters, in_conversion_times, sound_registers, sound, checked_chip};
 ghost use Rattle.ds3231_chip.specs.Answers.{lent_verdict};
 
 use calendar::{DateTime, SECONDS_IN_RANGE};
@@ -49,12 +49,20 @@ pub(crate) fn in_quarters(quarters: i16) -> bool
     (-512..=511).contains(&quarters)
 }
 
+#[tactic(auto, unfolding(ds3231::specs::Calls::in_conversion_times))]
+pub(crate) fn in_conversion_times(nanos: u64) -> bool
+    ensures { result ≡ in_conversion_times nanos }
+{
+    (125_000_000..=200_000_000).contains(&nanos)
+}
+
 fn sound_registers(registers: Registers) -> bool
     ensures { result ≡ sound_registers registers }
 {
     in_quarters(registers.temperature_quarters)
         & (registers.control & CONV == 0)
         & (registers.status & STATUS_BITS == registers.status)
+        & in_conversion_times(registers.conversion_nanos)
 }
 
 #[tactic(auto, unfolding(ds3231::specs::Calls::sound))]

@@ -38,11 +38,6 @@ const A1F: u8 = 0x01;
 // The status bits that a write can only clear.
 const CLEAR_ONLY: u8 = OSF | A2F | A1F;
 
-const NANOS_PER_MILLISECOND: u64 = 1_000_000;
-
-// How long a conversion keeps CONV and BSY set.
-const CONVERSION_NANOS: u64 = 200 * NANOS_PER_MILLISECOND;
-
 // The byte of a register, from the seven bytes of the time registers, live or latched.
 pub fn register_byte(time: [u8; 7], registers: Registers, register: Register, at: u64) -> u8
     ensures { result ≡ byte_at time registers register at }
@@ -139,12 +134,13 @@ fn write_control(registers: Registers, byte: u8, at: u64) -> Registers
     registers
 }
 
-// The end of the last conversion after a byte written to control. A conversion that starts ends at the last instant at most.
+// The end of the last conversion after a byte written to control. A conversion that starts keeps CONV and BSY set for the chip's
+// conversion time, and ends at the last instant at most.
 fn conversion_end(registers: Registers, byte: u8, at: u64) -> Option<u64>
     ensures { result ≡ (control_written byte at registers).conversion_end }
 {
     if starts_conversion(registers, byte, at) {
-        Some(at.saturating_add(CONVERSION_NANOS))
+        Some(at.saturating_add(registers.conversion_nanos))
     } else {
         registers.conversion_end
     }

@@ -49,7 +49,7 @@ fn powered(rt: &impl Print) -> Ds3231 {
     }
 }
 
-// A panel whose battery was empty: the oscillator had stopped. It has 22.5 degrees.
+// A panel whose battery was empty: the oscillator had stopped. It has 22.5 degrees, and the conversion time of a script's power-on.
 fn lost_battery() -> Ds3231Config {
     Ds3231Config {
         start: DateTime {
@@ -62,6 +62,7 @@ fn lost_battery() -> Ds3231Config {
         },
         oscillator_stopped: true,
         temperature_quarters: 90,
+        ..Ds3231Config::default()
     }
 }
 

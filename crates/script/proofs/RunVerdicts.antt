@@ -10,12 +10,10 @@ use Rattle.refusals.specs.Numbered.{accepted, refused, and_then, answered, refus
 use Rattle.refusals.proofs.Checks.{refused_leaves}
 use Rattle.std.proofs.lemmas.Bool.Decides.{nat_tests}
 use Rattle.std.specs.Prelude.{if◌then◌else◌, Result, Ok, Err}
-use Rattle.calendar.specs.Stated.{InRange, date_time}
-use Rattle.calendar.proofs.Laws.{in_range_accepted, month_bounds}
-use Rattle.ds3231.specs.Calls.{sound, in_quarters, checked_quarters, chip_on, default_config, power_on}
+use Rattle.ds3231.specs.Calls.{sound, chip_on, default_config, power_on}
 use Rattle.ds3231.specs.declared.Ds3231.{Ds3231}
 use Rattle.ds3231.specs.declared.Ds3231Config.{Ds3231Config}
-use Rattle.ds3231.proofs.ExactTime.{power_on_sound}
+use Rattle.ds3231.proofs.PowersOn.{default_on, power_on_sound}
 use Rattle.ds3231_chip.specs.Answers.{config_row, lent_verdict}
 use Rattle.ds3231_chip.specs.declared.power.Ds3231ConfigError.{Ds3231ConfigError}
 use Rattle.script_check.specs.Records.{kind_of, records_in, checked_length, checked_script}
@@ -58,19 +56,13 @@ module _ (h : Held) (s a : List ℕ) (len : ℕ) (l : length h.store ≡ len) wh
 
 -- ---- the run from `clockrun`'s power-on
 
-on : power_on default_config ≡ accepted (chip_on default_config)
-unfolding checked_quarters in_quarters
-on =
-    let v : InRange (date_time 2026 1 1 0 0 0) = omega (arith, month_bounds 2026 1) in
-    rw (in_range_accepted (date_time 2026 1 1 0 0 0) v)
-
 pub power_on_is_sound : sound clockrun_held.chip ≡ true
-power_on_is_sound = power_on_sound default_config (chip_on default_config) on
+power_on_is_sound = power_on_sound default_config (chip_on default_config) default_on
 
 -- it is not refused, and gives that chip
 pub powers_on : (f : Ds3231Config) (r : Result Ds3231 Ds3231ConfigError) → f ≡ default_config → answered config_row r ≡ power_on f → r ≡ Ok (chip_on default_config)
-powers_on f (Ok c) e p = cc (ap power_on e, on)
-powers_on f (Err d) e p = cc (ap power_on e, on)
+powers_on f (Ok c) e p = cc (ap power_on e, default_on)
+powers_on f (Err d) e p = cc (ap power_on e, default_on)
 
 -- neither its chip nor its store is refused
 pub power_on_verdict : (s : List ℕ) (room : ℕ) → run_verdict clockrun_held s room ≡ checked_run s room

@@ -76,6 +76,7 @@ fn registers_number(registers: Registers) -> u64 {
     seven(bytes)
         ^ seven(registers.alarms)
         ^ registers.conversion_end.unwrap_or(0)
+        ^ registers.conversion_nanos
         ^ u64::from(registers.temperature_quarters.abs_diff(i16::MIN))
 }
 

@@ -72,5 +72,14 @@ fn config(record: [u8; RECORD]) -> Ds3231Config {
         start: time(record),
         oscillator_stopped: record[7] == 1,
         temperature_quarters: i16::from_le_bytes([record[10], record[11]]),
+        conversion_nanos: conversion_nanos(record),
+    }
+}
+
+// 0 stands for that of a script's power-on: the Rust's power-on takes no conversion time.
+fn conversion_nanos(record: [u8; RECORD]) -> u64 {
+    match u32::from_le_bytes([record[12], record[13], record[14], record[15]]) {
+        0 => Ds3231Config::default().conversion_nanos,
+        nanos => u64::from(nanos),
     }
 }

@@ -82,7 +82,7 @@ fn values(rt: &impl Print, error: DateTimeError) {
     };
 }
 
-// A refused power-on: that of its time, or `refused,7,-41` for a temperature.
+// A refused power-on: that of its time, `refused,7,-41` for a temperature, or `refused,22`.
 pub(crate) fn not_on(rt: &impl Print, error: Ds3231ConfigError) {
     refused(rt, &error);
     match error {
@@ -90,5 +90,6 @@ pub(crate) fn not_on(rt: &impl Print, error: Ds3231ConfigError) {
         Ds3231ConfigError::Temperature(quarters) => {
             let _ = print!(rt; ",{quarters}");
         }
+        Ds3231ConfigError::ConversionTime => {}
     }
 }

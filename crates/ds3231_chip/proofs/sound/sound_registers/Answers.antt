@@ -10,4 +10,4 @@ pub returns : goal.returns
 unfolding sound_registers
 returns c =
     let s : SFits w16 c.args.registers.temperature_quarters = search (rules, c.struct_told-1.given) in
-    rw (c.in_quarters.ensures, to_z-of_z s)
+    rw (c.in_quarters.ensures, c.in_conversion_times.ensures, to_z-of_z s)

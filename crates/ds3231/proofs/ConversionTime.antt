@@ -205,7 +205,7 @@ in_01 : (g : Registers) → g.conversion_nanos ≡ 200_000_000 → (r b t u : �
 in_01 g e r b t u =
     let l = left r b t g in
     let s : starts_conversion b t g ≡ (not (eqb (bit_and b 0x20) 0) && not (below_end g.conversion_end t)) =
-        ap (λ (y : Bool). not (eqb (bit_and b 0x20) 0) && not y) (below_same g.conversion_end t) in
+    ap (λ (y : Bool). not (eqb (bit_and b 0x20) 0) && not y) (below_same g.conversion_end t) in
     let z : (registers_written r b t g).conversion_end ≡ end_in_01 r b t g = l.end ∙ rw (s, e) refl in
     let w = ap (λ (x : Option ℕ). runs_at x u) z ∙ below_same (end_in_01 r b t g) u in
     record { runs = w; control = λ time. ap₂ (λ (x : ℕ) (d : Bool). with_bit x 0x20 d) l.control w; status = λ time. ap₂ (λ (x : ℕ) (d : Bool). with_bit x 0x04 d) l.status w }

@@ -83,8 +83,8 @@ pub struct Timing {
     pub pointer: Register,
 }
 
-// The registers outside the time: control without bit 5 and status without bit 2, which read set while a conversion runs; the end
-// of the last conversion, and how long each lasts.
+// The registers outside the time: control without bit 5 and status without bit 2, which read set while a conversion runs; how long
+// each conversion lasts, and the end of the last one. With the end before the time, a run is slower.
 #[derive(Clone, Copy, Debug)]
 pub struct Registers {
     pub alarms: [u8; 7],
@@ -93,8 +93,8 @@ pub struct Registers {
     pub aging: u8,
     pub temperature_quarters: i16,
     pub int_sqw_reported: bool,
-    pub conversion_end: Option<u64>,
     pub conversion_nanos: u64,
+    pub conversion_end: Option<u64>,
 }
 
 // The DS3231 on an I2C bus, in 112 bytes: the fields of a struct lie in memory in the order of the source, which leaves few gaps.

@@ -13,7 +13,13 @@ use ds3231_chip::power_on;
 use refusals::Refusal;
 
 // Conversion times, in nanoseconds.
-const LOTS: [u64; 5] = [124_999_999, 125_000_000, 160_000_000, 200_000_000, 200_000_001];
+const LOTS: [u64; 5] = [
+    124_999_999,
+    125_000_000,
+    160_000_000,
+    200_000_000,
+    200_000_001,
+];
 
 // Instants and spans, in nanoseconds.
 const SECOND_1: u64 = 1_000_000_000;

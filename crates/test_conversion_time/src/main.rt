@@ -32,7 +32,9 @@ const SCRIPT: [u8; 16] = [5, 0, 0, 0, 0, 0, 0, 0, 3, 0, 0, 0, 0, 0, 0, 0];
 type Panel = Session<256>;
 
 fn main(rt: HostRuntime) -> Result<()> {
-    println!(rt; "nanos,power_on,START,WRITE,READ,STOP,taking,out,store,now,register,dropped,run,answer")?;
+    println!(rt;
+        "nanos,power_on,START,WRITE,READ,STOP,taking,out,store,now,register,dropped,run,answer"
+    )?;
     for nanos in TIMES {
         let config = Ds3231Config {
             conversion_nanos: nanos,

@@ -51,8 +51,8 @@ extern "C" {
 uint32_t clock_script_check(const uint8_t *script, size_t length);
 
 /* Checks the whole script, then runs it on a chip powered on at 2026-01-01T00:00:00, oscillator not stopped, 100 quarters
- * of a degree, and writes one answer byte an event: START and WRITE 1 or 0, READ the byte, STOP 0. `answers_length` is the
- * number of records. A refusal writes nothing. */
+ * of a degree, conversions of 200 ms, and writes one answer byte an event: START and WRITE 1 or 0, READ the byte, STOP 0.
+ * `answers_length` is the number of records. A refusal writes nothing. */
 uint32_t clock_script_run(const uint8_t *script, size_t length, uint8_t *answers, size_t answers_length);
 
 #ifdef __cplusplus

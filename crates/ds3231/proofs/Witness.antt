@@ -1,4 +1,4 @@
--- The claim of the exact time is not empty: the case *hour and bad weekday* of document 01, then a burst that sets the time, one that reads 0x00 to 0x06, a taking, a refused call, and a READ that wraps the pointer. Each READ of the time meets the claim's condition, and its byte is given.
+-- The claims of the exact time and of the conversion time are not empty. Of the first: the case *hour and bad weekday* of document 01, then a burst that sets the time, one that reads 0x00 to 0x06, a taking, a refused call, and a READ that wraps the pointer. Each READ of the time meets the claim's condition, and its byte is given. Of the second: a READ of status on the chips of two lots, below and at the ends of their conversions.
 -- Assumes nothing.
 use Prim.Native.Nat.{ℕ, zero, suc, ◌+◌, ◌*◌, ◌/◌, ◌%◌, ◌≤◌, ◌<◌}
 use mathlib.Core.Bool.{Bool, true, false, not, ◌&&◌}
@@ -8,8 +8,8 @@ use native.Mathlib.Omega.{arith}
 use borrow.Author.Tests.{le-leb, le-ltb}
 use lib.Dec.{leb, lit<, T, eqb, leb→le}
 use lib.ListN.{replicate, length}
-use Rattle.refusals.specs.Numbered.{accepted, refused}
-use Rattle.std.specs.Prelude.{if◌then◌else◌}
+use Rattle.refusals.specs.Numbered.{Numbered, accepted, refused}
+use Rattle.std.specs.Prelude.{if◌then◌else◌, Some}
 use Rattle.computed.specs.Entries.{entry}
 use Rattle.computed.proofs.Entries.{entry_is}
 use Rattle.calendar.specs.Stated.{InRange, date_time, with_day, seconds_of, time_of, month_length, day_number}
@@ -22,7 +22,7 @@ use Rattle.diagnostics.specs.declared.ChipName.TheVariants.{Ds3231}
 use Rattle.diagnostics.specs.declared.I2cDiagnostic.{I2cDiagnostic}
 use Rattle.diagnostics.specs.declared.I2cDiagnosticKind.TheVariants.{ReadOnly}
 use Rattle.ds3231.specs.Numbers.{nanos, range, day}
-use Rattle.ds3231.specs.Calls.{chip_on, default_config, power_on, replied, Call, bus, taking, lent_store, too_short, verdict}
+use Rattle.ds3231.specs.Calls.{in_quarters, chip_on, default_config, power_on, Answered, replied, Call, bus, taking, lent_store, too_short, verdict, answer}
 use Rattle.ds3231.specs.Model.{reads, Model, exact, date_with, clamped, offset_with, wraps, model_on}
 use Rattle.ds3231.proofs.Follows.{offset_same, offset_gives}
 use Rattle.ds3231.specs.Exact.{events, fully_lent, model_after, after, TimeRead, answer_to, NeverFall, instant}
@@ -30,6 +30,9 @@ use Rattle.ds3231.specs.declared.Ds3231Config.{Ds3231Config}
 use Rattle.ds3231.specs.declared.Event.{Event}
 use Rattle.ds3231.specs.declared.Event.TheVariants.{Start, Write, Read, Stop}
 use Rattle.ds3231.specs.declared.Reply.TheVariants.{Byte}
+use Rattle.ds3231.specs.Total.{chip_after_all}
+use Rattle.ds3231.specs.ConversionTime.{status_read, legal}
+use Rattle.ds3231.proofs.ConversionTime.{conversion_time}
 use Rattle.ds3231.proofs.Counting.{whole_count}
 use Rattle.ds3231.proofs.PowersOn.{default_on}
 use Rattle.ds3231.proofs.ExactTime.{verdict_is, after_power_on, exact_time}
@@ -359,3 +362,32 @@ read_after_wrap =
 -- 12:65:07 has the seconds of 13:05:07, and only `InRange` shuts it out
 pub late_minute : (seconds_of (date_time 2026 1 1 12 65 7) ≡ seconds_of (date_time 2026 1 1 13 5 7)) × (InRange (date_time 2026 1 1 12 65 7) → ⊥)
 late_minute = (omega (arith, seconds_formula (date_time 2026 1 1 12 65 7), seconds_formula (date_time 2026 1 1 13 5 7)), λ v. let h = v.minute_to in omega arith)
+
+-- ---- conversions of two lots
+
+-- 3C is written to control at 1,000,000,000, and the pointer set to status for a read
+pub polling : List Event
+polling =
+    Start 0x68 false 999_998_000 ∷ Write 0x0E 999_999_000 ∷ Write 0x3C 1_000_000_000
+    ∷ Start 0x68 false 1_000_001_000 ∷ Write 0x0F 1_000_002_000 ∷ Start 0x68 true 1_000_003_000 ∷ []
+
+-- the power-on of a script, but for its conversion time
+pub lot : ℕ → Ds3231Config
+lot n = let f = default_config in record { start = f.start; oscillator_stopped = f.oscillator_stopped; temperature_quarters = f.temperature_quarters; conversion_nanos = n }
+
+-- what the READ answers then, at t
+abbrev status_at : ℕ → ℕ → Numbered Answered
+status_at n t = answer (bus store (Read false t)) (chip_after_all (chip_on (lot n)) (on_store polling))
+
+-- a legal time: the READ answers status with bit 2 set while the instant is below the conversion's end
+converts_in : (n t b : ℕ) → legal n ≡ true → status_read n (record { control = 0x1C; status = 0x08; start = Some 1_000_000_000 }) t ≡ b → status_at n t ≡ accepted (replied (Byte b))
+unfolding lot polling on_store store in_quarters meaning plain_meaning decimal
+converts_in n t b l e =
+    let o = (conversion_time.powers_on (lot n)).gives_chip (in_range_accepted (date_time 2026 1 1 0 0 0) start_in) refl l in
+    (conversion_time.means (lot n) (chip_on (lot n)) o (on_store polling)).read_status store false t refl refl refl ∙ ap (λ (x : ℕ). accepted (replied (Byte x))) e
+
+pub two_lots : (status_at 125_000_000 1_124_999_999 ≡ accepted (replied (Byte 0x0C))) × (status_at 125_000_000 1_125_000_000 ≡ accepted (replied (Byte 0x08)))
+    × (status_at 200_000_000 1_125_000_000 ≡ accepted (replied (Byte 0x0C))) × (status_at 200_000_000 1_200_000_000 ≡ accepted (replied (Byte 0x08)))
+two_lots =
+    (converts_in 125_000_000 1_124_999_999 0x0C refl refl, converts_in 125_000_000 1_125_000_000 0x08 refl refl,
+    converts_in 200_000_000 1_125_000_000 0x0C refl refl, converts_in 200_000_000 1_200_000_000 0x08 refl refl)

@@ -110,7 +110,7 @@ pub record In01 (g : Registers) (r b t u : ℕ) : Type 0 where
 abbrev pub legal : ℕ → Bool
 legal n = leb 125_000_000 n && leb n 200_000_000
 
--- 'Refused: 22, after 7': power-on by its checks of start, quarters and conversion time
+-- power-on by its checks of start, quarters and conversion time: 22 comes after 7, and 7 after 1 to 6
 pub record PowersOn (f : Ds3231Config) : Type 0 where
   pub start_first : (number : ℕ) (values : List ℤ) → checked f.start ≡ refused number values → power_on f ≡ refused number values
   pub then_quarters : checked f.start ≡ accepted tt → in_quarters f.temperature_quarters ≡ false → power_on f ≡ refused 7 (f.temperature_quarters ∷ [])
@@ -143,7 +143,7 @@ with_time n c = record {
 
 pub record ConversionTime : Type 0 where
   pub powers_on : (f : Ds3231Config) → PowersOn f
-  -- 'Power-on takes the conversion time in nanoseconds and the chip keeps it': after any calls the chip has the time of the power-on
+  -- 'the chip keeps it': after any calls the chip has the time of its power-on
   pub kept : (f : Ds3231Config) (c₀ : Ds3231) → power_on f ≡ accepted c₀ → (calls : List Call) → (chip_after_all c₀ calls).registers.conversion_nanos ≡ f.conversion_nanos
   -- 'what converting means changes for control, status and every caller': after any calls, conversions of that time
   pub means : (f : Ds3231Config) (c₀ : Ds3231) → power_on f ≡ accepted c₀ → (calls : List Call) → Converts f.conversion_nanos f c₀ calls

@@ -2,7 +2,8 @@
 // calls mean, document 01's model, the exact time and the report total are definitions and theorems.
 // To read it: of specs/ `Numbers`, `Map`, `Clock`, `Timing`, `Registers`, `Calls`, then `Model`, `Exact` and `Total`; `Changed`
 // has the parts that chip and model say each for itself. docs/EXACT-TIME.md says the theorem in plain words; its proof is
-// `proofs/ExactTime.antt`, and `proofs/Witness.antt` shows that it is not empty. `EightBits` is the claim of the weekday offset.
+// `proofs/ExactTime.antt`, and `proofs/Witness.antt` shows that it is not empty. `EightBits` is the claim of the weekday offset, and
+// `ConversionTime` that of the conversion time.
 #![tactic(auto)]
 
 ghost use Rattle.std.specs.Prelude.{◌≡◌};

@@ -19,7 +19,7 @@ pub struct RunOutcome {
     pub records: [I2cDiagnostic; 256],
 }
 
-// Runs a script from 2026-01-01T00:00:00, oscillator not stopped, 100 quarters.
+// Runs a script from 2026-01-01T00:00:00, oscillator not stopped, 100 quarters, conversions of 200 ms.
 pub fn run_from_power_on(script: &[u8], answers: &mut [u8]) -> Result<RunOutcome, RunError>
     ensures { RanByValue clockrun_held script.now answers.old result answers.new }
 {

@@ -16,7 +16,7 @@ pub extern "C" fn clock_script_check(script: &[u8]) -> u32
     script::clock_script_check(script)
 }
 
-// Runs a script from 2026-01-01T00:00:00, oscillator not stopped, 100 quarters, into one answer byte a record.
+// Runs a script from the power-on of `run_from_power_on`, into one answer byte a record.
 #[unsafe(no_mangle)]
 pub extern "C" fn clock_script_run(script: &[u8], answers: &mut [u8]) -> u32
     ensures value { result ≡ host_number (checked_run script.now (length answers.old)) }

@@ -7,15 +7,14 @@ use mathlib.Core.Path.{◌≡◌, refl, sym, ap, subst, ◌∙◌}
 use native.Mathlib.Omega.{arith}
 use borrow.Author.Tests.{leb-true, le-leb}
 use lib.Dec.{leb}
-use Rattle.refusals.specs.Numbered.{Numbered, unless}
-use Rattle.ds3231.specs.Calls.{sound, Call, chip_by, chip_after}
+use Rattle.ds3231.specs.Calls.{sound, Call, chip_after}
 use Rattle.ds3231.specs.Total.{chip_after_all}
 use Rattle.ds3231.specs.EightBits.{with_offset, in_eight_bits, of_any_width, Outcome, outcome, outcomes, NeverAbove6, NothingLost, EightBits}
 use Rattle.ds3231.specs.declared.Ds3231.{Ds3231}
 use Rattle.ds3231.proofs.Facts.{same_test, sound_test, sound_fact}
 use Rattle.ds3231.proofs.Sounds.{sound_kept, sound_run}
 use Rattle.ds3231.proofs.PowersOn.{power_on_sound}
-use Rattle.ds3231.proofs.ExactTime.{verdict_by}
+use Rattle.ds3231.proofs.ConversionTime.{gives_10}
 
 -- ---- a sound chip
 
@@ -40,16 +39,12 @@ never_above_6 c e = record { never_above = λ calls. at_most_6 (chip_after_all c
 abbrev Fits : Ds3231 → Type 0
 Fits c = c.timing.clock.weekday_offset < 2 ^ 8
 
--- a call on a chip that is not sound is refused, and leaves it
-refused_leaves : (k : Call) (c : Ds3231) → sound c ≡ false → c ≡ chip_after k c
-refused_leaves k c e = sym (ap (λ (v : Numbered (Unit {0})). unless v (chip_by k c) c) (verdict_by k c false e))
-
 fits_after : (k : Call) (c : Ds3231) → Fits c → Fits (chip_after k c)
 fits_after k c h = by (sound c) refl
   where
     by : (b : Bool) → sound c ≡ b → Fits (chip_after k c)
     by true e = omega (arith, at_most_6 (chip_after k c) (sound_kept k c e))
-    by false e = subst Fits (refused_leaves k c e) h
+    by false e = subst Fits (sym ((gives_10 c e).chip k)) h
 
 fits_run : (ks : List Call) (c : Ds3231) → Fits c → Fits (chip_after_all c ks)
 fits_run [] c h = h

@@ -1,5 +1,6 @@
 pub mod Counting
 pub mod Masks
+pub mod Written
 pub mod Map
 pub mod Facts
 pub mod Bytes
@@ -11,7 +12,7 @@ pub mod PowersOn
 pub mod NeverRefused
 pub mod ExactTime
 pub mod ReportTotal
-pub mod EightBits
 pub mod ConversionTime
+pub mod EightBits
 pub mod Witness
 pub mod Examples

@@ -8,7 +8,7 @@ use Rattle.refusals.specs.Numbered.{Numbered, accepted, refused}
 use Rattle.refusals.proofs.Checks.{never}
 use Rattle.calendar.specs.Stated.{date_time, checked}
 use Rattle.calendar.proofs.Laws.{in_range_accepted, accepted_in_range, month_bounds}
-use Rattle.ds3231.specs.Calls.{in_quarters, in_conversion_times, sound, chip_on, default_config, checked_quarters, checked_conversion, power_on}
+use Rattle.ds3231.specs.Calls.{in_quarters, in_conversion_times, sound, chip_on, default_config, checked_quarters, checked_conversion_time, power_on}
 use Rattle.ds3231.specs.ConversionTime.{legal, PowersOn}
 use Rattle.ds3231.specs.declared.Ds3231.{Ds3231}
 use Rattle.ds3231.specs.declared.Ds3231Config.{Ds3231Config}
@@ -20,7 +20,7 @@ unfolding in_conversion_times
 times_legal n = refl
 
 pub powers : (f : Ds3231Config) → PowersOn f
-unfolding checked_quarters checked_conversion
+unfolding checked_quarters checked_conversion_time
 powers f =
     let l = times_legal f.conversion_nanos in
     record {

@@ -1,9 +1,9 @@
 -- Power-on gives a sound chip, and every call keeps a sound chip sound.
 -- Assumes nothing.
 use Prim.Native.Nat.{ℕ, ◌≤◌, ◌<◌}
-use mathlib.Core.Bool.{Bool, true, false, ◌&&◌}
+use mathlib.Core.Bool.{Bool, true, false}
 use mathlib.Core.List.{List, [], ◌∷◌}
-use mathlib.Core.Path.{◌≡◌, refl}
+use mathlib.Core.Path.{◌≡◌, refl, sym, ap, subst, ◌∙◌}
 use native.Mathlib.Omega.{arith}
 use lib.Dec.{leb, eqb}
 use lib.Bits.{bit_and}
@@ -18,7 +18,7 @@ use Rattle.ds3231.specs.Clock.{seconds_at}
 use Rattle.ds3231.specs.Timing.{is_defined, opened, found, committed_clock, noted, pointed_by, commit, accept}
 use Rattle.ds3231.specs.Map.{number_of, named}
 use Rattle.ds3231.specs.Registers.{registers_written}
-use Rattle.ds3231.specs.Calls.{sound, chip_on, Step, written, has_read, step, step_chip, Call, bus, taking, chip_by, verdict, chip_after}
+use Rattle.ds3231.specs.Calls.{in_quarters, in_conversion_times, sound, chip_on, Step, written, has_read, step, step_chip, Call, bus, taking, chip_by, verdict, chip_after}
 use Rattle.ds3231.specs.Total.{chip_after_all}
 use Rattle.ds3231.specs.Types.{PendingTime, Register}
 use Rattle.ds3231.specs.declared.Clock.{Clock}
@@ -30,6 +30,7 @@ use Rattle.ds3231.specs.declared.Ds3231.{Ds3231}
 use Rattle.ds3231.specs.declared.Event.{Event}
 use Rattle.ds3231.specs.declared.Event.TheVariants.{Start, Write, Read, Stop}
 use Rattle.ds3231.specs.declared.Ds3231Config.{Ds3231Config}
+use Rattle.ds3231.proofs.Written.{left}
 use Rattle.ds3231.proofs.Masks.{control_clear, status_within}
 use Rattle.ds3231.proofs.Facts.{PendingIn, HasPending, TimingIn, RegistersIn, ConfigIn, Sound, sound_test, sound_fact}
 use Rattle.ds3231.proofs.Bytes.{MeaningIn, meaning_in, noted_in, offset_in, seconds_in, weekday_shown, time_in}
@@ -66,10 +67,13 @@ accept_in m i t c h =
 
 others_in : (r b t : ℕ) (g : Registers) → RegistersIn g → RegistersIn (registers_written r b t g)
 others_in r b t g h =
-    chosen RegistersIn (leb 0x07 r && leb r 0x0D) (λ e. record { quarters = h.quarters; control = h.control; status = h.status; conversion = h.conversion })
-    (λ e. chosen RegistersIn (eqb r 0x0E) (λ e. record { quarters = h.quarters; control = control_clear b; status = h.status; conversion = h.conversion })
-    (λ e. chosen RegistersIn (eqb r 0x0F) (λ e. record { quarters = h.quarters; control = h.control; status = status_within (bit_and g.status b) b; conversion = h.conversion })
-    (λ e. chosen RegistersIn (eqb r 0x10) (λ e. record { quarters = h.quarters; control = h.control; status = h.status; conversion = h.conversion }) (λ e. h))))
+    let l = left r b t g in
+    record {
+      quarters = ap in_quarters l.quarters ∙ h.quarters;
+      control = subst (λ (x : ℕ). bit_and x 0x20 ≡ 0) (sym l.control) (chosen (λ (x : ℕ). bit_and x 0x20 ≡ 0) (eqb r 0x0E) (λ e. control_clear b) (λ e. h.control));
+      status = subst (λ (x : ℕ). bit_and x 0x8B ≡ x) (sym l.status) (chosen (λ (x : ℕ). bit_and x 0x8B ≡ x) (eqb r 0x0F) (λ e. status_within (bit_and g.status b) b) (λ e. h.status));
+      conversion = ap in_conversion_times l.time ∙ h.conversion;
+    }
 
 -- ---- the events
 

@@ -31,7 +31,7 @@ use Rattle.ds3231.specs.declared.Event.{Event}
 use Rattle.ds3231.specs.declared.Event.TheVariants.{Start, Write, Read, Stop}
 use Rattle.ds3231.specs.declared.Reply.TheVariants.{Byte}
 use Rattle.ds3231.specs.Total.{chip_after_all}
-use Rattle.ds3231.specs.ConversionTime.{status_read, legal}
+use Rattle.ds3231.specs.ConversionTime.{status_byte, legal}
 use Rattle.ds3231.proofs.ConversionTime.{conversion_time}
 use Rattle.ds3231.proofs.Counting.{whole_count}
 use Rattle.ds3231.proofs.PowersOn.{default_on}
@@ -380,14 +380,17 @@ abbrev status_at : ℕ → ℕ → Numbered Answered
 status_at n t = answer (bus store (Read false t)) (chip_after_all (chip_on (lot n)) (on_store polling))
 
 -- a legal time: the READ answers status with bit 2 set while the instant is below the conversion's end
-converts_in : (n t b : ℕ) → legal n ≡ true → status_read n (record { control = 0x1C; status = 0x08; start = Some 1_000_000_000 }) t ≡ b → status_at n t ≡ accepted (replied (Byte b))
+converts_in : (n t b : ℕ) → legal n ≡ true → status_byte n (record { control = 0x1C; status = 0x08; start = Some 1_000_000_000 }) t ≡ b → status_at n t ≡ accepted (replied (Byte b))
 unfolding lot polling on_store store in_quarters meaning plain_meaning decimal
 converts_in n t b l e =
     let o = (conversion_time.powers_on (lot n)).gives_chip (in_range_accepted (date_time 2026 1 1 0 0 0) start_in) refl l in
-    (conversion_time.means (lot n) (chip_on (lot n)) o (on_store polling)).read_status store false t refl refl refl ∙ ap (λ (x : ℕ). accepted (replied (Byte x))) e
+    (conversion_time.means (lot n) (chip_on (lot n)) o (on_store polling)).bus_status store false t refl refl refl ∙ ap (λ (x : ℕ). accepted (replied (Byte x))) e
 
 pub two_lots : (status_at 125_000_000 1_124_999_999 ≡ accepted (replied (Byte 0x0C))) × (status_at 125_000_000 1_125_000_000 ≡ accepted (replied (Byte 0x08)))
     × (status_at 200_000_000 1_125_000_000 ≡ accepted (replied (Byte 0x0C))) × (status_at 200_000_000 1_200_000_000 ≡ accepted (replied (Byte 0x08)))
-two_lots =
-    (converts_in 125_000_000 1_124_999_999 0x0C refl refl, converts_in 125_000_000 1_125_000_000 0x08 refl refl,
-    converts_in 200_000_000 1_125_000_000 0x0C refl refl, converts_in 200_000_000 1_200_000_000 0x08 refl refl)
+two_lots = (
+  converts_in 125_000_000 1_124_999_999 0x0C refl refl,
+  converts_in 125_000_000 1_125_000_000 0x08 refl refl,
+  converts_in 200_000_000 1_125_000_000 0x0C refl refl,
+  converts_in 200_000_000 1_200_000_000 0x08 refl refl,
+)

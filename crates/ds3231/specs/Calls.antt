@@ -88,13 +88,13 @@ unfoldable pub checked_quarters : ℤ → Numbered (Unit {0})
 checked_quarters q = if in_quarters q then accepted tt else refused 7 (q ∷ [])
 
 -- Order 2 of document 02: 22, a time outside 125,000,000 to 200,000,000, with no values
-unfoldable pub checked_conversion : ℕ → Numbered (Unit {0})
-checked_conversion n = if in_conversion_times n then accepted tt else refused 22 []
+unfoldable pub checked_conversion_time : ℕ → Numbered (Unit {0})
+checked_conversion_time n = if in_conversion_times n then accepted tt else refused 22 []
 
 -- 'The table of refusals': power-on 1 to 7. Order 2 of document 02: 22 after 7
 abbrev pub power_on : Ds3231Config → Numbered Ds3231
 power_on f =
-    and_then (checked f.start) (and_then (checked_quarters f.temperature_quarters) (and_then (checked_conversion f.conversion_nanos) (accepted (chip_on f))))
+    and_then (checked f.start) (and_then (checked_quarters f.temperature_quarters) (and_then (checked_conversion_time f.conversion_nanos) (accepted (chip_on f))))
 
 -- ---- the calls that ask
 

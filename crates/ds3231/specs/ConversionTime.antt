@@ -1,4 +1,4 @@
--- Order 2 of document 02: a conversion time per panel. First conversions by the bus events alone, from their starts and not from the end that the chip keeps; then document 01's meaning of a write; then what is claimed, `ConversionTime`. Assumes nothing.
+-- Order 2 of document 02: a conversion time per panel. First conversions by the bus events alone, from their starts and not from the end that the chip keeps; then what a write means, from that end; then what is claimed, `ConversionTime`. Assumes nothing.
 use Rattle.computed.specs.Prelude.{ℕ, Bool, true, false, not, List, [], min, leb, ltb, eqb, length, bit_and, bit_or, ℤ}
 use Rattle.std.specs.Prelude.{◌+◌, ◌&&◌, ◌∷◌, ◌≡◌, if◌then◌else◌, Option, Some, None}
 use Rattle.refusals.specs.Numbered.{accepted, refused}
@@ -6,7 +6,7 @@ use Rattle.calendar.specs.Stated.{checked}
 use Rattle.diagnostics.specs.declared.I2cDiagnostic.{I2cDiagnostic}
 use Rattle.ds3231.specs.Types.{Registers, Ds3231, Ds3231Config, Control, Status, Event, Start, Write, Read, Stop, Byte}
 use Rattle.ds3231.specs.Registers.{converting, byte_at, registers_written}
-use Rattle.ds3231.specs.Calls.{in_quarters, sound, chip_on, default_config, power_on, now_answer, dropped_answer, register_answer, replied, Call, bus, verdict, answer}
+use Rattle.ds3231.specs.Calls.{in_quarters, sound, chip_on, default_config, power_on, now_answer, dropped_answer, register_answer, replied, Call, bus, lent_store, lent_out, chip_after, store_after, out_after, answer}
 use Rattle.ds3231.specs.Model.{Stage, unaddressed, awaits_pointer, writes, drops, reads, Model, fed, model_on}
 use Rattle.ds3231.specs.Exact.{fully_lent, model_after}
 use Rattle.ds3231.specs.Total.{chip_after_all}
@@ -19,17 +19,17 @@ pub record Conversions : Type 0 where
   pub status : ℕ
   pub start : Option ℕ
 
--- a conversion runs while the instant is below start plus n, that sum saturating: 'Register bytes', which has 200,000,000 for n
+-- a conversion runs while the instant is below start plus n, that sum saturating: 'Register bytes', which has 200,000,000 for n. So it does also at an instant below its start, since instants may fall
 abbrev pub runs_for : (n : ℕ) → Option ℕ → ℕ → Bool
 runs_for n (Some s) t = ltb t (min (s + n) 0xFFFF_FFFF_FFFF_FFFF)
 runs_for n None t = false
 
 -- 'Register bytes': while it runs, control bit 5 and status bit 2 read set
-abbrev pub control_read : (n : ℕ) → Conversions → ℕ → ℕ
-control_read n v t = bit_or v.control (if runs_for n v.start t then 0x20 else 0)
+abbrev pub control_byte : (n : ℕ) → Conversions → ℕ → ℕ
+control_byte n v t = bit_or v.control (if runs_for n v.start t then 0x20 else 0)
 
-abbrev pub status_read : (n : ℕ) → Conversions → ℕ → ℕ
-status_read n v t = bit_or v.status (if runs_for n v.start t then 0x04 else 0)
+abbrev pub status_byte : (n : ℕ) → Conversions → ℕ → ℕ
+status_byte n v t = bit_or v.status (if runs_for n v.start t then 0x04 else 0)
 
 -- 'Register bytes': a byte b written at t to register r. Control keeps the byte without bit 5; bit 5 set while not converting starts a conversion; status after a write is (status & byte & 0x83) | (byte & 0x08)
 abbrev pub written_at : (n r b t : ℕ) → Conversions → Conversions
@@ -47,15 +47,15 @@ written_in awaits_pointer n r b t v = v
 written_in drops n r b t v = v
 written_in reads n r b t v = v
 
-abbrev pub made_by : (n : ℕ) → Model → Event → Conversions → Conversions
-made_by n m (Start a r t) v = v
-made_by n m (Write b t) v = written_in m.stage n m.pointer b t v
-made_by n m (Read k t) v = v
-made_by n m (Stop t) v = v
+abbrev pub after_event : (n : ℕ) → Model → Event → Conversions → Conversions
+after_event n m (Start a r t) v = v
+after_event n m (Write b t) v = written_in m.stage n m.pointer b t v
+after_event n m (Read k t) v = v
+after_event n m (Stop t) v = v
 
-abbrev pub made_by_all : (n : ℕ) → Model → List Event → Conversions → Conversions
-made_by_all n m [] v = v
-made_by_all n m (e ∷ es) v = made_by_all n (fed e m) es (made_by n m e v)
+abbrev pub after_events : (n : ℕ) → Model → List Event → Conversions → Conversions
+after_events n m [] v = v
+after_events n m (e ∷ es) v = after_events n (fed e m) es (after_event n m e v)
 
 -- 'Register bytes': power-on has control 0x1C, status 0x08, or 0x88 where the oscillator had stopped
 abbrev pub conversions_on : Ds3231Config → Conversions
@@ -63,12 +63,12 @@ conversions_on f = record { control = 0x1C; status = if f.oscillator_stopped the
 
 -- ---- after calls on the chip c₀ of a power-on f: conversions of n nanoseconds
 module _ (n : ℕ) (f : Ds3231Config) (c₀ : Ds3231) (calls : List Call) where
-  -- made by the bus calls that are lent 256 records
+  -- made by the bus calls that are lent 256 records: from power-on these are the ones not refused (`feed` of Exact.antt)
   abbrev pub conversions : Conversions
-  conversions = made_by_all n (model_on f) (fully_lent calls) (conversions_on f)
+  conversions = after_events n (model_on f) (fully_lent calls) (conversions_on f)
 
-  abbrev pub stands_at : Model
-  stands_at = model_after (model_on f) (fully_lent calls)
+  abbrev pub model_then : Model
+  model_then = model_after (model_on f) (fully_lent calls)
 
   abbrev pub chip_then : Ds3231
   chip_then = chip_after_all c₀ calls
@@ -76,37 +76,37 @@ module _ (n : ℕ) (f : Ds3231Config) (c₀ : Ds3231) (calls : List Call) where
   -- whatever the instants of the events, at every instant t: whether a conversion runs, and what `register` and a bus READ answer of control and status
   pub record Converts : Type 0 where
     pub runs : (t : ℕ) → converting chip_then.registers t ≡ runs_for n conversions.start t
-    pub control : (t : ℕ) → register_answer chip_then 0x0E t ≡ accepted (control_read n conversions t)
-    pub status : (t : ℕ) → register_answer chip_then 0x0F t ≡ accepted (status_read n conversions t)
-    pub read_control : (s : List I2cDiagnostic) (k : Bool) (t : ℕ) → length s ≡ 256 → stands_at.stage ≡ reads → stands_at.pointer ≡ 0x0E
-        → answer (bus s (Read k t)) chip_then ≡ accepted (replied (Byte (control_read n conversions t)))
-    pub read_status : (s : List I2cDiagnostic) (k : Bool) (t : ℕ) → length s ≡ 256 → stands_at.stage ≡ reads → stands_at.pointer ≡ 0x0F
-        → answer (bus s (Read k t)) chip_then ≡ accepted (replied (Byte (status_read n conversions t)))
+    pub register_control : (t : ℕ) → register_answer chip_then 0x0E t ≡ accepted (control_byte n conversions t)
+    pub register_status : (t : ℕ) → register_answer chip_then 0x0F t ≡ accepted (status_byte n conversions t)
+    pub bus_control : (s : List I2cDiagnostic) (k : Bool) (t : ℕ) → length s ≡ 256 → model_then.stage ≡ reads → model_then.pointer ≡ 0x0E
+        → answer (bus s (Read k t)) chip_then ≡ accepted (replied (Byte (control_byte n conversions t)))
+    pub bus_status : (s : List I2cDiagnostic) (k : Bool) (t : ℕ) → length s ≡ 256 → model_then.stage ≡ reads → model_then.pointer ≡ 0x0F
+        → answer (bus s (Read k t)) chip_then ≡ accepted (replied (Byte (status_byte n conversions t)))
 
--- ---- document 01, which has 200,000,000 for every chip
+-- ---- a byte b written at t to register r, of registers whose conversions last n nanoseconds
 
--- an instant below the end of the last conversion, if there was one
+-- an instant below the end that is kept, if one is
 abbrev pub below_end : Option ℕ → ℕ → Bool
 below_end (Some end) t = ltb t end
 below_end None t = false
 
--- 'Register bytes': the end of the last conversion after a byte b written at t to register r. Bit 5 set while not converting starts a conversion, which runs while the instant is below start plus 200,000,000, that sum saturating
-abbrev pub end_in_01 : (r b t : ℕ) → Registers → Option ℕ
-end_in_01 r b t g =
-    if eqb r 0x0E && (not (eqb (bit_and b 0x20) 0) && not (below_end g.conversion_end t)) then Some (min (t + 200_000_000) 0xFFFF_FFFF_FFFF_FFFF)
+-- 'Register bytes', which has 200,000,000 for n: the end that is kept once b is written. Bit 5 set while not converting starts a conversion, which runs while the instant is below start plus n, that sum saturating; a conversion under way keeps its end, whatever bit 5
+abbrev pub end_after : (n r b t : ℕ) → Registers → Option ℕ
+end_after n r b t g =
+    if eqb r 0x0E && (not (eqb (bit_and b 0x20) 0) && not (below_end g.conversion_end t)) then Some (min (t + n) 0xFFFF_FFFF_FFFF_FFFF)
     else g.conversion_end
 
--- after that write, at the instant u: `converting`, control and status by that end
-pub record In01 (g : Registers) (r b t u : ℕ) : Type 0 where
-  pub runs : converting (registers_written r b t g) u ≡ below_end (end_in_01 r b t g) u
+-- then, at the instant u: whether a conversion runs, control and status, by the end that is kept
+pub record AfterWrite (n : ℕ) (g : Registers) (r b t u : ℕ) : Type 0 where
+  pub runs : converting (registers_written r b t g) u ≡ below_end (end_after n r b t g) u
   pub control : (time : List ℕ) → byte_at time (registers_written r b t g) Control u
-      ≡ bit_or (if eqb r 0x0E then bit_and b 0xDF else g.control) (if below_end (end_in_01 r b t g) u then 0x20 else 0)
+      ≡ bit_or (if eqb r 0x0E then bit_and b 0xDF else g.control) (if below_end (end_after n r b t g) u then 0x20 else 0)
   pub status : (time : List ℕ) → byte_at time (registers_written r b t g) Status u
-      ≡ bit_or (if eqb r 0x0F then bit_or (bit_and (bit_and g.status b) 0x83) (bit_and b 0x08) else g.status) (if below_end (end_in_01 r b t g) u then 0x04 else 0)
+      ≡ bit_or (if eqb r 0x0F then bit_or (bit_and (bit_and g.status b) 0x83) (bit_and b 0x08) else g.status) (if below_end (end_after n r b t g) u then 0x04 else 0)
 
 -- ---- what is claimed
 
--- 'outside 125,000,000 to 200,000,000' is refused
+-- 125,000,000 to 200,000,000, both ends legal
 abbrev pub legal : ℕ → Bool
 legal n = leb 125_000_000 n && leb n 200_000_000
 
@@ -117,11 +117,14 @@ pub record PowersOn (f : Ds3231Config) : Type 0 where
   pub then_time : checked f.start ≡ accepted tt → in_quarters f.temperature_quarters ≡ true → legal f.conversion_nanos ≡ false → power_on f ≡ refused 22 []
   pub gives_chip : checked f.start ≡ accepted tt → in_quarters f.temperature_quarters ≡ true → legal f.conversion_nanos ≡ true → power_on f ≡ accepted (chip_on f)
 
--- every call on the chip c gives 10
+-- every call on the chip c gives 10, and leaves chip, store and output
 pub record Gives10 (c : Ds3231) : Type 0 where
-  pub calls : (k : Call) → verdict k c ≡ refused 10 []
+  pub answers : (k : Call) → answer k c ≡ refused 10 []
+  pub chip : (k : Call) → chip_after k c ≡ c
+  pub store : (k : Call) → store_after k c ≡ lent_store k
+  pub out : (k : Call) → out_after k c ≡ lent_out k
   pub asked_time : (t : ℕ) → now_answer c t ≡ refused 10 []
-  pub asked_register : (n t : ℕ) → register_answer c n t ≡ refused 10 []
+  pub asked_register : (r t : ℕ) → register_answer c r t ≡ refused 10 []
   pub asked_dropped : dropped_answer c ≡ refused 10 []
 
 -- the chip c with the conversion time n, all else the same
@@ -143,15 +146,18 @@ with_time n c = record {
 
 pub record ConversionTime : Type 0 where
   pub powers_on : (f : Ds3231Config) → PowersOn f
-  -- 'the chip keeps it': after any calls the chip has the time of its power-on
-  pub kept : (f : Ds3231Config) (c₀ : Ds3231) → power_on f ≡ accepted c₀ → (calls : List Call) → (chip_after_all c₀ calls).registers.conversion_nanos ≡ f.conversion_nanos
-  -- 'what converting means changes for control, status and every caller': after any calls, conversions of that time
+  -- power-on takes the time, and 'the chip keeps it': any chip, whatever is called
+  pub taken : (f : Ds3231Config) → (chip_on f).registers.conversion_nanos ≡ f.conversion_nanos
+  pub kept : (c : Ds3231) (calls : List Call) → (chip_after_all c calls).registers.conversion_nanos ≡ c.registers.conversion_nanos
+  -- 'what converting means changes for control, status and every caller': after any calls from power-on, conversions of its time
   pub means : (f : Ds3231Config) (c₀ : Ds3231) → power_on f ≡ accepted c₀ → (calls : List Call) → Converts f.conversion_nanos f c₀ calls
-  -- '`clockrun` and the host's run keep 200,000,000': their power-on is not refused, and after any calls conversions are of 200,000,000
+  -- and after any write to registers of any chip, sound or not, at any instant
+  pub any_write : (g : Registers) (r b t u : ℕ) → AfterWrite g.conversion_nanos g r b t u
+  -- '`clockrun` and the host's run keep 200,000,000, where all answers are those of the Rust': with this time any write means what document 01 says; their power-on has it, and is not refused
+  pub as_document_01 : (g : Registers) → g.conversion_nanos ≡ 200_000_000 → (r b t u : ℕ) → AfterWrite 200_000_000 g r b t u
+  pub of_a_script : default_config.conversion_nanos ≡ 200_000_000
   pub script_powers_on : power_on default_config ≡ accepted (chip_on default_config)
-  pub of_a_script : (calls : List Call) → Converts 200_000_000 default_config (chip_on default_config) calls
-  -- registers of any chip with 200,000,000, sound or not: after any write, at any instant, what document 01 says
-  pub as_document_01 : (g : Registers) → g.conversion_nanos ≡ 200_000_000 → (r b t u : ℕ) → In01 g r b t u
-  -- 'a sound chip also has this number in range': a sound chip, given the time n instead, is sound exactly where n is legal; with another every call gives 10
+  -- 'a sound chip also has this number in range': given another time, a sound chip is sound exactly where that is legal
   pub bound : (c : Ds3231) → sound c ≡ true → (n : ℕ) → sound (with_time n c) ≡ legal n
+  -- any chip with a time that is not legal gives 10 to every call
   pub out_of_range : (c : Ds3231) → legal c.registers.conversion_nanos ≡ false → Gives10 c

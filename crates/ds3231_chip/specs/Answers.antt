@@ -23,7 +23,7 @@ config_row (Start e) = date_row e
 config_row (Temperature q) = record { number = 7; values = q ∷ [] }
 config_row ConversionTime = record { number = 22; values = [] }
 
--- a chip that is not sound, for a program's variable where power-on is refused or not yet called: its base seconds are out of range, and its conversion time too, so that every call on it gives 10 (`no_chip_not_sound` of proofs/PowerLaws.antt). The documents leave free what else it holds
+-- a chip that is not sound, for a program's variable where power-on is refused or not yet called: its base seconds are out of range, and its conversion time too, so that every call on it gives 10 (`no_chip_gives_10` of proofs/PowerLaws.antt). The documents leave free what else it holds
 abbrev pub no_chip : Ds3231
 no_chip = record {
   timing = record { phase = Released; pointer = Seconds; clock = record { base_seconds = range; base_at = 0; weekday_offset = 0 }; twelve_hour = false; latched = replicate 7 0; pending = None; pending_at = 0 };

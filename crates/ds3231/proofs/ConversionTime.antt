@@ -30,7 +30,7 @@ use Rattle.ds3231.specs.declared.Reply.TheVariants.{Byte}
 use Rattle.ds3231.proofs.Written.{Left, left}
 use Rattle.ds3231.proofs.Map.{number_one}
 use Rattle.ds3231.proofs.Facts.{ConfigIn, Sound, same_test, sound_test, sound_fact}
-use Rattle.ds3231.proofs.Sounds.{sound_run, on_sound}
+use Rattle.ds3231.proofs.Sounds.{sound_run, time_taken, on_sound}
 use Rattle.ds3231.proofs.PowersOn.{times_legal, powers, default_on, on_chip}
 use Rattle.ds3231.proofs.ExactTime.{verdict_by, verdict_is, feed_run, read_answer, reading_phase, register_answer_lem}
 use Rattle.ds3231.proofs.Places.{stage_of, Place, event_place}
@@ -253,7 +253,7 @@ pub conversion_time : ConversionTime
 conversion_time =
     record {
       powers_on = powers;
-      taken = λ f. refl;
+      taken = time_taken;
       kept = keeps_time;
       means = means;
       any_write = after_write;

@@ -142,10 +142,13 @@ sound_run (k ∷ ks) c e = sound_run ks (chip_after k c) (sound_kept k c e)
 
 -- ---- power-on gives a sound chip
 
+pub time_taken : (f : Ds3231Config) → (chip_on f).registers.conversion_nanos ≡ f.conversion_nanos
+time_taken f = refl
+
 pub on_sound : (f : Ds3231Config) → ConfigIn f → Sound (chip_on f)
 on_sound f h =
     record {
       timing = record { base = seconds_below f.start h.start; offset = offset_in _ _; pending = tt };
-      registers = record { quarters = h.quarters; control = refl; status = chosen (λ x. bit_and x 0x8B ≡ x) f.oscillator_stopped (λ e. refl) (λ e. refl); conversion = h.conversion };
+      registers = record { quarters = h.quarters; control = refl; status = chosen (λ x. bit_and x 0x8B ≡ x) f.oscillator_stopped (λ e. refl) (λ e. refl); conversion = ap in_conversion_times (time_taken f) ∙ h.conversion };
       waiting = omega arith;
     }

@@ -1,23 +1,21 @@
 -- The claim of `ConversionTime`, proved: the events, then the calls.
 -- Assumes nothing.
-use Prim.Native.Nat.{ℕ, ◌+◌}
-use mathlib.Core.Bool.{Bool, true, false, not, ◌&&◌}
+use Prim.Native.Nat.{ℕ}
+use mathlib.Core.Bool.{Bool, true, false}
 use mathlib.Core.List.{List, [], ◌∷◌}
 use mathlib.Core.Path.{◌≡◌, refl, sym, ap, ap₂, ◌∙◌, subst}
-use lib.Dec.{eqb}
-use lib.Bits.{bit_and, bit_or}
 use lib.ListN.{length}
-use Rattle.std.specs.Prelude.{min, if◌then◌else◌, Option, Some, None}
+use Rattle.std.specs.Prelude.{if◌then◌else◌, Option, Some, None}
 use Rattle.refusals.specs.Numbered.{Numbered, accepted, refused, and_then, unless}
 use Rattle.diagnostics.specs.declared.I2cDiagnostic.{I2cDiagnostic}
 use Rattle.ds3231.specs.Timing.{shown_at}
-use Rattle.ds3231.specs.Registers.{runs_at, converting, byte_at, starts_conversion, registers_written}
+use Rattle.ds3231.specs.Registers.{runs_at, converting, byte_at, registers_written}
 use Rattle.ds3231.specs.Map.{number_of}
 use Rattle.ds3231.specs.Calls.{sound, chip_on, power_on, written, has_read, step, replied, answered_by, store_by, out_by, lent_store, lent_out, chip_after, Call, bus, taking, verdict, chip_by, answer}
 use Rattle.ds3231.specs.Model.{Stage, reads, Model, fed, model_on}
 use Rattle.ds3231.specs.Exact.{events_by, events, model_after}
 use Rattle.ds3231.specs.Total.{chip_after_all}
-use Rattle.ds3231.specs.ConversionTime.{Conversions, runs_for, written_at, written_in, after_event, after_events, conversions_on, control_byte, status_byte, conversions, model_then, Converts, below_end, end_after, AfterWrite, legal, Gives10, with_time, ConversionTime}
+use Rattle.ds3231.specs.ConversionTime.{control_after, status_after, starts, end_of, reads_with, Conversions, runs_for, written_at, written_in, after_event, after_events, conversions_on, control_byte, status_byte, conversions, model_then, Converts, below_end, end_after, AfterWrite, legal, Gives10, with_time, ConversionTime}
 use Rattle.ds3231.specs.declared.Phase.{Phase}
 use Rattle.ds3231.specs.declared.Phase.TheVariants.{Released, Pointer, Writing, Reading, Ignoring}
 use Rattle.ds3231.specs.Types.{Register, Control, Status}
@@ -39,7 +37,7 @@ use Rattle.ds3231.proofs.Places.{stage_of, Place, event_place}
 
 -- the end of a conversion of n nanoseconds by its start
 abbrev end_for : (n : ℕ) → Option ℕ → Option ℕ
-end_for n (Some s) = Some (min (s + n) 0xFFFF_FFFF_FFFF_FFFF)
+end_for n (Some s) = Some (end_of n s)
 end_for n None = None
 
 runs_same : (n : ℕ) (s : Option ℕ) (t : ℕ) → runs_at (end_for n s) t ≡ runs_for n s t
@@ -56,17 +54,16 @@ record Agree (n : ℕ) (g : Registers) (v : Conversions) : Type 0 where
 write_agrees : (n r b t : ℕ) (g x : Registers) (v : Conversions) → Agree n g v → Left r b t g x → Agree n x (written_at n r b t v)
 write_agrees n r b t g x v a l =
     let w : converting g t ≡ runs_for n v.start t = ap (λ (e : Option ℕ). runs_at e t) a.end ∙ runs_same n v.start t in
-    let s : starts_conversion b t g ≡ (not (eqb (bit_and b 0x20) 0) && not (runs_for n v.start t)) = ap (λ (y : Bool). not (eqb (bit_and b 0x20) 0) && not y) w in
     record {
-      control = l.control ∙ ap (λ (y : ℕ). if eqb r 0x0E then bit_and b 0xDF else y) a.control;
-      status = l.status ∙ ap (λ (y : ℕ). if eqb r 0x0F then bit_or (bit_and (bit_and y b) 0x83) (bit_and b 0x08) else y) a.status;
-      end = l.end ∙ rw (s, a.end, a.time) (starts (eqb r 0x0E && (not (eqb (bit_and b 0x20) 0) && not (runs_for n v.start t))));
+      control = l.control ∙ ap (control_after r b) a.control;
+      status = l.status ∙ ap (status_after r b) a.status;
+      end = l.end ∙ rw (w, a.end, a.time) (by (starts r b (runs_for n v.start t)));
       time = l.time ∙ a.time;
     }
   where
-    starts : (d : Bool) → (if d then Some (min (t + n) 0xFFFF_FFFF_FFFF_FFFF) else end_for n v.start) ≡ end_for n (if d then Some t else v.start)
-    starts true = refl
-    starts false = refl
+    by : (d : Bool) → (if d then Some (end_of n t) else end_for n v.start) ≡ end_for n (if d then Some t else v.start)
+    by true = refl
+    by false = refl
 
 write_in_agrees : (n : ℕ) (p : Phase) (b t : ℕ) (c : Ds3231) (v : Conversions) → Agree n c.registers v
     → Agree n (written p b t c).registers (written_in (stage_of p) n (number_of c.timing.pointer) b t v)
@@ -117,10 +114,6 @@ made_run n (k ∷ ks) c m v h = made_next n (verdict k c) k ks c m v h (λ d m v
 
 -- ---- control and status of a chip
 
--- what both read at t, by whether a conversion runs
-abbrev with_bit : (kept bit : ℕ) → Bool → ℕ
-with_bit kept bit b = bit_or kept (if b then bit else 0)
-
 module _ (f : Ds3231Config) (i : ConfigIn f) (calls : List Call) where
   abbrev nanos : ℕ
   nanos = f.conversion_nanos
@@ -147,10 +140,10 @@ module _ (f : Ds3231Config) (i : ConfigIn f) (calls : List Call) where
   runs_then t = ap (λ (e : Option ℕ). runs_at e t) made.agree.end ∙ runs_same nanos made_then.start t
 
   control_same : (time : List ℕ) (t : ℕ) → byte_at time chip.registers Control t ≡ control_byte nanos made_then t
-  control_same time t = ap₂ (λ (x : ℕ) (b : Bool). with_bit x 0x20 b) made.agree.control (runs_then t)
+  control_same time t = ap₂ (reads_with 0x20) made.agree.control (runs_then t)
 
   status_same : (time : List ℕ) (t : ℕ) → byte_at time chip.registers Status t ≡ status_byte nanos made_then t
-  status_same time t = ap₂ (λ (x : ℕ) (b : Bool). with_bit x 0x04 b) made.agree.status (runs_then t)
+  status_same time t = ap₂ (reads_with 0x04) made.agree.status (runs_then t)
 
   -- a READ of the register r, which the model stands at
   read_then : (r : Register) (b : ℕ) (s : List I2cDiagnostic) (k : Bool) (t : ℕ) → byte_at chip.timing.latched chip.registers r t ≡ b → length s ≡ 256
@@ -178,13 +171,10 @@ below_same None t = refl
 
 after_write : (g : Registers) (r b t u : ℕ) → AfterWrite g.conversion_nanos g r b t u
 after_write g r b t u =
-    let n = g.conversion_nanos in
     let l = left r b t g in
-    let s : starts_conversion b t g ≡ (not (eqb (bit_and b 0x20) 0) && not (below_end g.conversion_end t)) =
-    ap (λ (y : Bool). not (eqb (bit_and b 0x20) 0) && not y) (below_same g.conversion_end t) in
-    let z : (registers_written r b t g).conversion_end ≡ end_after n r b t g = l.end ∙ rw s refl in
-    let w = ap (λ (x : Option ℕ). runs_at x u) z ∙ below_same (end_after n r b t g) u in
-    record { runs = w; control = λ time. ap₂ (λ (x : ℕ) (d : Bool). with_bit x 0x20 d) l.control w; status = λ time. ap₂ (λ (x : ℕ) (d : Bool). with_bit x 0x04 d) l.status w }
+    let z : (registers_written r b t g).conversion_end ≡ end_after g.conversion_nanos r b t g = l.end ∙ rw (below_same g.conversion_end t) refl in
+    let w = ap (λ (x : Option ℕ). runs_at x u) z ∙ below_same _ u in
+    record { runs = w; control = λ time. ap₂ (reads_with 0x20) l.control w; status = λ time. ap₂ (reads_with 0x04) l.status w }
 
 -- ---- any chip keeps its time
 

@@ -64,15 +64,65 @@ pub record ConfigIn (f : Ds3231Config) : Type 0 where
   pub quarters : in_quarters f.temperature_quarters ≡ true
   pub conversion : in_conversion_times f.conversion_nanos ≡ true
 
--- from the facts to the test
+-- from the test to the facts
 
 is_accepted_lem : (v : Numbered (Unit {0})) → is_accepted v ≡ true → v ≡ accepted tt
 is_accepted_lem (accepted u) e = refl
 is_accepted_lem (refused n vs) e = absurd (false≢true e)
 
+time_fact : (t : DateTime) → sound_time t ≡ true → TimeIn t
+unfolding sound_time
+time_fact t e =
+    let a = both _ (leb t.day 31) e in
+    let b = both (is_accepted (checked (with_day 1 t))) (leb 1 t.day) a.0 in
+    record { valid = accepted_in_range (with_day 1 t) (is_accepted_lem (checked (with_day 1 t)) b.0); day_from = leb-true _ _ b.1; day_to = leb-true _ _ a.1 }
+
+pending_fact : (q : Option PendingTime) → sound_if_pending q ≡ true → HasPending q
+unfolding sound_pending
+pending_fact (Some p) e =
+    let a = both _ (leb p.weekday 7) e in
+    let b = both (sound_time p.time) (leb 1 p.weekday) a.0 in
+    record { time = time_fact _ b.0; week_from = leb-true _ _ b.1; week_to = leb-true _ _ a.1 }
+pending_fact None e = tt
+
+pub sound_fact : (c : Ds3231) → sound c ≡ true → Sound c
+unfolding sound sound_timing sound_registers
+sound_fact c e =
+    let a = both _ (leb c.diagnostics.waiting 256) e in
+    let b = both (sound_timing c.timing) (sound_registers c.registers) a.0 in
+    let p = both _ (sound_if_pending c.timing.pending) b.0 in
+    let o = both (ltb c.timing.clock.base_seconds range) _ p.0 in
+    let n = both _ _ b.1 in
+    let s = both _ (eqb (bit_and c.registers.status 0x8B) c.registers.status) n.0 in
+    let r = both (in_quarters c.registers.temperature_quarters) (eqb (bit_and c.registers.control 0x20) 0) s.0 in
+    record {
+      timing = record { base = ltb-true _ _ o.0; offset = omega (arith, leb-true _ _ o.1); pending = pending_fact c.timing.pending p.1 };
+      registers = record { quarters = r.0; control = eqb-true _ _ r.1; status = eqb-true _ _ s.1; conversion = n.1 };
+      waiting = leb-true _ _ a.1;
+    }
+
+-- and back
+
 time_test : (t : DateTime) → TimeIn t → sound_time t ≡ true
 unfolding sound_time
 time_test t h = both_true _ _ (both_true _ _ (ap is_accepted (in_range_accepted (with_day 1 t) h.valid)) (le-leb _ _ h.day_from)) (le-leb _ _ h.day_to)
+
+pending_test : (q : Option PendingTime) → HasPending q → sound_if_pending q ≡ true
+unfolding sound_pending
+pending_test (Some p) h = both_true _ _ (both_true _ _ (time_test _ h.time) (le-leb _ _ h.week_from)) (le-leb _ _ h.week_to)
+pending_test None h = refl
+
+pub sound_test : (c : Ds3231) → Sound c → sound c ≡ true
+unfolding sound sound_timing sound_registers
+sound_test c h =
+    let t = h.timing in
+    let g = h.registers in
+    both_true _ _ (both_true _ _
+    (both_true _ _ (both_true _ _ (lt-ltb _ _ t.base) (le-leb _ _ (omega (arith, t.offset)))) (pending_test c.timing.pending t.pending))
+    (both_true _ _ (both_true _ _ (both_true _ _ g.quarters (eq-eqb _ _ g.control)) (eq-eqb _ _ g.status)) g.conversion))
+    (le-leb _ _ h.waiting)
+
+-- ---- the time of a pending time by the ranges of its fields
 
 -- valid on the first of its month, by the ranges of the other fields
 pub first_in : (t : DateTime) → YearIn t.year → (1 ≤ t.month) × (t.month ≤ 12) → t.hour ≤ 23 → t.minute ≤ 59 → t.second ≤ 59 → InRange (with_day 1 t)
@@ -84,7 +134,7 @@ first_in t y m h n s =
       second_to = s;
     }
 
--- the same by the ranges of its fields, as the code tests it
+-- as the code tests it
 abbrev pub ranges : DateTime → Bool
 ranges t =
     leb 2000 t.year && leb t.year 2199 && leb 1 t.month && leb t.month 12 && leb 1 t.day && leb t.day 31
@@ -114,30 +164,6 @@ ranges_fact t e =
       day_to = leb-true _ _ d.1;
     }
 
-pending_test : (q : Option PendingTime) → HasPending q → sound_if_pending q ≡ true
-unfolding sound_pending
-pending_test (Some p) h = both_true _ _ (both_true _ _ (time_test _ h.time) (le-leb _ _ h.week_from)) (le-leb _ _ h.week_to)
-pending_test None h = refl
-
-pub sound_test : (c : Ds3231) → Sound c → sound c ≡ true
-unfolding sound sound_timing sound_registers
-sound_test c h =
-    let t = h.timing in
-    let g = h.registers in
-    both_true _ _ (both_true _ _
-    (both_true _ _ (both_true _ _ (lt-ltb _ _ t.base) (le-leb _ _ (omega (arith, t.offset)))) (pending_test c.timing.pending t.pending))
-    (both_true _ _ (both_true _ _ (both_true _ _ g.quarters (eq-eqb _ _ g.control)) (eq-eqb _ _ g.status)) g.conversion))
-    (le-leb _ _ h.waiting)
-
--- and back
-
-time_fact : (t : DateTime) → sound_time t ≡ true → TimeIn t
-unfolding sound_time
-time_fact t e =
-    let a = both _ (leb t.day 31) e in
-    let b = both (is_accepted (checked (with_day 1 t))) (leb 1 t.day) a.0 in
-    record { valid = accepted_in_range (with_day 1 t) (is_accepted_lem (checked (with_day 1 t)) b.0); day_from = leb-true _ _ b.1; day_to = leb-true _ _ a.1 }
-
 pub same_test : (a b : Bool) → (a ≡ true → b ≡ true) → (b ≡ true → a ≡ true) → a ≡ b
 same_test true b f g = sym (f refl)
 same_test false true f g = g refl
@@ -145,27 +171,3 @@ same_test false false f g = refl
 
 pub sound_time_ranges : (t : DateTime) → sound_time t ≡ ranges t
 sound_time_ranges t = same_test (sound_time t) (ranges t) (λ e. ranges_test t (time_fact t e)) (λ e. time_test t (ranges_fact t e))
-
-pending_fact : (q : Option PendingTime) → sound_if_pending q ≡ true → HasPending q
-unfolding sound_pending
-pending_fact (Some p) e =
-    let a = both _ (leb p.weekday 7) e in
-    let b = both (sound_time p.time) (leb 1 p.weekday) a.0 in
-    record { time = time_fact _ b.0; week_from = leb-true _ _ b.1; week_to = leb-true _ _ a.1 }
-pending_fact None e = tt
-
-pub sound_fact : (c : Ds3231) → sound c ≡ true → Sound c
-unfolding sound sound_timing sound_registers
-sound_fact c e =
-    let a = both _ (leb c.diagnostics.waiting 256) e in
-    let b = both (sound_timing c.timing) (sound_registers c.registers) a.0 in
-    let p = both _ (sound_if_pending c.timing.pending) b.0 in
-    let o = both (ltb c.timing.clock.base_seconds range) _ p.0 in
-    let n = both _ _ b.1 in
-    let s = both _ (eqb (bit_and c.registers.status 0x8B) c.registers.status) n.0 in
-    let r = both (in_quarters c.registers.temperature_quarters) (eqb (bit_and c.registers.control 0x20) 0) s.0 in
-    record {
-      timing = record { base = ltb-true _ _ o.0; offset = omega (arith, leb-true _ _ o.1); pending = pending_fact c.timing.pending p.1 };
-      registers = record { quarters = r.0; control = eqb-true _ _ r.1; status = eqb-true _ _ s.1; conversion = n.1 };
-      waiting = leb-true _ _ a.1;
-    }

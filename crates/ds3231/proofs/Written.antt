@@ -1,23 +1,23 @@
 -- What a byte written to a register leaves of control, status and the conversions.
 -- Assumes nothing.
-use Prim.Native.Nat.{ℕ, ◌+◌, ◌-◌}
+use Prim.Native.Nat.{ℕ, ◌-◌}
 use mathlib.Core.Bool.{true, false, ◌&&◌}
 use mathlib.Core.Path.{◌≡◌, refl}
 use native.Mathlib.Omega.{arith}
 use borrow.Author.Tests.{leb-true, eqb-true}
 use lib.Dec.{leb, eqb}
-use lib.Bits.{bit_and, bit_or}
 use Rattle.std.proofs.lemmas.Bool.{ne_eqb}
-use Rattle.std.specs.Prelude.{min, if◌then◌else◌, Some}
+use Rattle.std.specs.Prelude.{if◌then◌else◌, Some}
 use Rattle.computed.proofs.Choice.{chosen, both}
-use Rattle.ds3231.specs.Registers.{starts_conversion, alarm_written, control_written, status_written, registers_written}
+use Rattle.ds3231.specs.Registers.{converting, alarm_written, control_written, status_written, registers_written}
+use Rattle.ds3231.specs.ConversionTime.{control_after, status_after, starts, end_of}
 use Rattle.ds3231.specs.declared.Registers.{Registers}
 
 -- control, status, the last conversion's end, the conversion time and the quarters that a byte b written at t to register r leaves
 pub record Left (r b t : ℕ) (g x : Registers) : Type 0 where
-  pub control : x.control ≡ (if eqb r 0x0E then bit_and b 0xDF else g.control)
-  pub status : x.status ≡ (if eqb r 0x0F then bit_or (bit_and (bit_and g.status b) 0x83) (bit_and b 0x08) else g.status)
-  pub end : x.conversion_end ≡ (if eqb r 0x0E && starts_conversion b t g then Some (min (t + g.conversion_nanos) 0xFFFF_FFFF_FFFF_FFFF) else g.conversion_end)
+  pub control : x.control ≡ control_after r b g.control
+  pub status : x.status ≡ status_after r b g.status
+  pub end : x.conversion_end ≡ (if starts r b (converting g t) then Some (end_of g.conversion_nanos t) else g.conversion_end)
   pub time : x.conversion_nanos ≡ g.conversion_nanos
   pub quarters : x.temperature_quarters ≡ g.temperature_quarters
 

@@ -1,4 +1,4 @@
--- Order 2 of document 02: a conversion time per panel. First conversions by the bus events alone, from their starts and not from the end that the chip keeps; then what a write means, from that end; then what is claimed, `ConversionTime`. Assumes nothing.
+-- Order 2 of document 02: a conversion time per panel. Conversions by the bus events alone, from their starts and not from the end that the chip keeps; what a write means, from that end; and what is claimed, `ConversionTime`. Assumes nothing.
 use Rattle.computed.specs.Prelude.{ℕ, Bool, true, false, not, List, [], min, leb, ltb, eqb, length, bit_and, bit_or, ℤ}
 use Rattle.std.specs.Prelude.{◌+◌, ◌&&◌, ◌∷◌, ◌≡◌, if◌then◌else◌, Option, Some, None}
 use Rattle.refusals.specs.Numbered.{accepted, refused}
@@ -11,6 +11,27 @@ use Rattle.ds3231.specs.Model.{Stage, unaddressed, awaits_pointer, writes, drops
 use Rattle.ds3231.specs.Exact.{fully_lent, model_after}
 use Rattle.ds3231.specs.Total.{chip_after_all}
 
+-- ---- 'Register bytes' of control and status, with n for its 200,000,000 nanoseconds
+
+-- a byte b written to register r: control keeps the byte without bit 5; status after a write is (status & byte & 0x83) | (byte & 0x08)
+abbrev pub control_after : (r b kept : ℕ) → ℕ
+control_after r b kept = if eqb r 0x0E then bit_and b 0xDF else kept
+
+abbrev pub status_after : (r b kept : ℕ) → ℕ
+status_after r b kept = if eqb r 0x0F then bit_or (bit_and (bit_and kept b) 0x83) (bit_and b 0x08) else kept
+
+-- bit 5 of control set while not converting starts a conversion
+abbrev pub starts : (r b : ℕ) → (runs : Bool) → Bool
+starts r b runs = eqb r 0x0E && (not (eqb (bit_and b 0x20) 0) && not runs)
+
+-- a conversion runs while the instant is below start plus n, that sum saturating
+abbrev pub end_of : (n start : ℕ) → ℕ
+end_of n start = min (start + n) 0xFFFF_FFFF_FFFF_FFFF
+
+-- while a conversion runs, control bit 5 and status bit 2 read set
+abbrev pub reads_with : (bit kept : ℕ) → (runs : Bool) → ℕ
+reads_with bit kept runs = bit_or kept (if runs then bit else 0)
+
 -- ---- conversions by the bus events alone, each of n nanoseconds
 
 -- control without bit 5, status without bit 2, and the start of the last conversion, if there was one
@@ -19,24 +40,23 @@ pub record Conversions : Type 0 where
   pub status : ℕ
   pub start : Option ℕ
 
--- a conversion runs while the instant is below start plus n, that sum saturating: 'Register bytes', which has 200,000,000 for n. So it does also at an instant below its start, since instants may fall
+-- also at an instant below the start, since instants may fall
 abbrev pub runs_for : (n : ℕ) → Option ℕ → ℕ → Bool
-runs_for n (Some s) t = ltb t (min (s + n) 0xFFFF_FFFF_FFFF_FFFF)
+runs_for n (Some start) t = ltb t (end_of n start)
 runs_for n None t = false
 
--- 'Register bytes': while it runs, control bit 5 and status bit 2 read set
 abbrev pub control_byte : (n : ℕ) → Conversions → ℕ → ℕ
-control_byte n v t = bit_or v.control (if runs_for n v.start t then 0x20 else 0)
+control_byte n v t = reads_with 0x20 v.control (runs_for n v.start t)
 
 abbrev pub status_byte : (n : ℕ) → Conversions → ℕ → ℕ
-status_byte n v t = bit_or v.status (if runs_for n v.start t then 0x04 else 0)
+status_byte n v t = reads_with 0x04 v.status (runs_for n v.start t)
 
--- 'Register bytes': a byte b written at t to register r. Control keeps the byte without bit 5; bit 5 set while not converting starts a conversion; status after a write is (status & byte & 0x83) | (byte & 0x08)
+-- a byte b written at t to register r
 abbrev pub written_at : (n r b t : ℕ) → Conversions → Conversions
 written_at n r b t v = record {
-  control = if eqb r 0x0E then bit_and b 0xDF else v.control;
-  status = if eqb r 0x0F then bit_or (bit_and (bit_and v.status b) 0x83) (bit_and b 0x08) else v.status;
-  start = if eqb r 0x0E && (not (eqb (bit_and b 0x20) 0) && not (runs_for n v.start t)) then Some t else v.start;
+  control = control_after r b v.control;
+  status = status_after r b v.status;
+  start = if starts r b (runs_for n v.start t) then Some t else v.start;
 }
 
 -- 'Acknowledgements': the byte goes to the register of the pointer where the model of the exact time stands in `writes`, and elsewhere to none
@@ -90,19 +110,15 @@ abbrev pub below_end : Option ℕ → ℕ → Bool
 below_end (Some end) t = ltb t end
 below_end None t = false
 
--- 'Register bytes', which has 200,000,000 for n: the end that is kept once b is written. Bit 5 set while not converting starts a conversion, which runs while the instant is below start plus n, that sum saturating; a conversion under way keeps its end, whatever bit 5
+-- the end that is kept once b is written: a conversion under way keeps its own, whatever bit 5
 abbrev pub end_after : (n r b t : ℕ) → Registers → Option ℕ
-end_after n r b t g =
-    if eqb r 0x0E && (not (eqb (bit_and b 0x20) 0) && not (below_end g.conversion_end t)) then Some (min (t + n) 0xFFFF_FFFF_FFFF_FFFF)
-    else g.conversion_end
+end_after n r b t g = if starts r b (below_end g.conversion_end t) then Some (end_of n t) else g.conversion_end
 
 -- then, at the instant u: whether a conversion runs, control and status, by the end that is kept
 pub record AfterWrite (n : ℕ) (g : Registers) (r b t u : ℕ) : Type 0 where
   pub runs : converting (registers_written r b t g) u ≡ below_end (end_after n r b t g) u
-  pub control : (time : List ℕ) → byte_at time (registers_written r b t g) Control u
-      ≡ bit_or (if eqb r 0x0E then bit_and b 0xDF else g.control) (if below_end (end_after n r b t g) u then 0x20 else 0)
-  pub status : (time : List ℕ) → byte_at time (registers_written r b t g) Status u
-      ≡ bit_or (if eqb r 0x0F then bit_or (bit_and (bit_and g.status b) 0x83) (bit_and b 0x08) else g.status) (if below_end (end_after n r b t g) u then 0x04 else 0)
+  pub control : (time : List ℕ) → byte_at time (registers_written r b t g) Control u ≡ reads_with 0x20 (control_after r b g.control) (below_end (end_after n r b t g) u)
+  pub status : (time : List ℕ) → byte_at time (registers_written r b t g) Status u ≡ reads_with 0x04 (status_after r b g.status) (below_end (end_after n r b t g) u)
 
 -- ---- what is claimed
 

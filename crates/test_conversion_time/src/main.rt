@@ -1,5 +1,5 @@
 // The bounds of a conversion time: power-on with it, and every call on a chip that has it. 0 stands where a call is not refused.
-// A call that is refused leaves the store, the output and the answers of a run as they were.
+// A call that is refused leaves the chip, the store, the output and the answers of a run as they were.
 // The numbers of the file `stdout` are worked out by hand from documents 01 and 02.
 #![tactic(auto)]
 
@@ -33,7 +33,7 @@ type Panel = Session<256>;
 
 fn main(rt: HostRuntime) -> Result<()> {
     println!(rt;
-        "nanos,power_on,START,WRITE,READ,STOP,taking,out,store,now,register,dropped,run,answer"
+        "nanos,power_on,START,WRITE,phase,waiting,READ,STOP,taking,out,store,now,register,dropped,run,answer"
     )?;
     for nanos in TIMES {
         let config = Ds3231Config {
@@ -75,10 +75,13 @@ fn panel_of(nanos: u64) -> Result<Panel> {
     })
 }
 
-// A pointer byte that names no register is reported at 2. The READ finds the chip addressed for writing.
+// A pointer byte that names no register is reported at 2. The chip then ignores what follows, and one report waits. The READ finds
+// it addressed for writing.
 fn print_events(rt: &impl Print, panel: &mut Panel) -> Result<()> {
     print!(rt; ",{}", number(panel.address(0x68, false, 1)))?;
     print!(rt; ",{}", number(panel.write(0x13, 2)))?;
+    let chip = panel.chip;
+    print!(rt; ",{:?},{}", chip.timing.phase, chip.diagnostics.waiting)?;
     print!(rt; ",{}", number(panel.read(false, 3)))?;
     print!(rt; ",{}", number(panel.stop(4)))?;
     Ok(())

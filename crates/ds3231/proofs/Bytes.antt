@@ -20,6 +20,7 @@ use Rattle.ds3231.specs.Timing.{noted}
 use Rattle.ds3231.specs.declared.Clock.{Clock}
 use Rattle.ds3231.specs.declared.PendingTime.{PendingTime}
 use Rattle.ds3231.proofs.Facts.{YearIn, TimeIn, first_in, PendingIn}
+use Rattle.ds3231.proofs.Weekdays.{InWeek, counted_on}
 
 -- a field in its range
 abbrev pub MeaningIn : Meaning → Type 0
@@ -42,7 +43,7 @@ century : (c : Bool) (y : ℕ) → y ≤ 99 → YearIn (2000 + (if c then 100 el
 century true y h = omega arith
 century false y h = omega arith
 
-changed_in : (m : Meaning) → MeaningIn m → (t : DateTime) → TimeIn t → TimeIn (changed_time m t)
+pub changed_in : (m : Meaning) → MeaningIn m → (t : DateTime) → TimeIn t → TimeIn (changed_time m t)
 changed_in undefined i t h = h
 changed_in (sets r n flag) i t h =
     let v = h.valid in
@@ -57,9 +58,6 @@ changed_in (sets r n flag) i t h =
     }
 
 -- a weekday stays one
-abbrev pub InWeek : ℕ → Type 0
-InWeek w = (1 ≤ w) × (w ≤ 7)
-
 pub weekday_in : (m : Meaning) → MeaningIn m → (w : ℕ) → InWeek w → InWeek (changed_weekday m w)
 weekday_in undefined i w h = h
 weekday_in (sets r n flag) i w h = by_register InWeek r 3 i.weekday h
@@ -79,7 +77,7 @@ pub seconds_in : (k : Clock) (t : ℕ) → seconds_at k t < range
 seconds_in k t = omega arith
 
 pub weekday_shown : (k : Clock) (t : ℕ) → InWeek (weekday_at k t)
-weekday_shown k t = omega arith
+weekday_shown k t = subst InWeek (sym (counted_on k t)) (omega arith)
 
 -- a time in range is one for a pending time
 pub time_in : (t : DateTime) → InRange t → TimeIn t

@@ -312,5 +312,11 @@ module _ (f : Ds3231Config) (i : ConfigIn f) where
 pub after_power_on : (f : Ds3231Config) (c₀ : Ds3231) → power_on f ≡ accepted c₀ → (calls : List Call) → Sound (after f c₀ calls).chip
 after_power_on f c₀ e calls = on_chip (λ (c : Ds3231). Sound (after f c calls).chip) f c₀ e (λ i. (stands f i calls).sound_chip)
 
+-- while the instants never fall its timing follows the model
+pub follows_after : (f : Ds3231Config) (c₀ : Ds3231) → power_on f ≡ accepted c₀ → (calls : List Call) → NeverFall 0 (events c₀ calls)
+    → Follows (after f c₀ calls).chip.timing (after f c₀ calls).model (last_instant 0 (events c₀ calls))
+follows_after f c₀ e calls =
+    on_chip (λ (c : Ds3231). NeverFall 0 (events c calls) → Follows (after f c calls).chip.timing (after f c calls).model (last_instant 0 (events c calls))) f c₀ e (λ i. follows f i calls)
+
 pub exact_time : ExactTime
 exact_time f c₀ e calls = on_chip (λ (c : Ds3231). Holds f c calls) f c₀ e (λ i. holds f i calls)

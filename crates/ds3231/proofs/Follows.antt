@@ -14,7 +14,7 @@ use Rattle.calendar.specs.Stated.{with_day, time_of, seconds_of, nearest, month_
 use Rattle.calendar.proofs.Laws.{nearest_same, nearest_past}
 use Rattle.calendar.specs.declared.DateTime.{DateTime}
 use Rattle.fields.specs.Table.{Meaning, undefined, sets, meaning, time_bytes}
-use Rattle.ds3231.specs.Numbers.{nanos, range, day}
+use Rattle.ds3231.specs.Numbers.{nanos, range}
 use Rattle.ds3231.specs.Clock.{seconds_at, time_at, weekday_at, second_start}
 use Rattle.ds3231.specs.Changed.{offset_for, changed_time, changed_weekday, changed_mode, next_pointer}
 use Rattle.ds3231.specs.Timing.{phase_for, is_defined, sets_seconds, found, found_at, noted, clock_from, committed_clock, latch, in_phase, pointed, pointed_by, commit, accept}
@@ -34,7 +34,8 @@ use Rattle.ds3231.specs.declared.Timing.{Timing}
 use Rattle.ds3231.proofs.Counting.{split_count, whole_count, part_count}
 use Rattle.ds3231.proofs.Facts.{TimeIn, HasPending, TimingIn}
 use Rattle.ds3231.proofs.Map.{next_moved, wrapping}
-use Rattle.ds3231.proofs.Bytes.{meaning_in, InWeek, weekday_in, offset_in, weekday_shown}
+use Rattle.ds3231.proofs.Weekdays.{InWeek, counted_on}
+use Rattle.ds3231.proofs.Bytes.{meaning_in, weekday_in, offset_in, weekday_shown}
 use Rattle.ds3231.proofs.Places.{stage_of, stage_addressed, by_name, read_in}
 
 -- ---- the clock and the count
@@ -60,7 +61,7 @@ module _ (k : Clock) (m : Model) (last : ℕ) (w : FollowsClock k m last) (t : �
   part_is = ap (λ (x : ℕ). x % (range * nanos) % nanos) same_count ∙ part_count range nanos (lit< tt) (lit< tt) k.base_seconds (t - k.base_at)
 
   pub weekday_is : exact_weekday m t ≡ weekday_at k t
-  weekday_is = ap₂ (λ (s o : ℕ). (s / day + o) % 7 + 1) whole_is w.offset
+  weekday_is = omega (arith, same_count, w.offset, counted_on k t)
 
 -- ---- what one byte makes, on both sides
 
@@ -229,7 +230,7 @@ last_up [] lo hi i w u = u
 last_up (a ∷ l) lo hi i w u = last_up l lo hi (seconds_with (meaning_of a) a.at i) w.2 (seconds_up (meaning_of a) hi a.at i w.1 u)
 
 -- a weekday stays one
-weekdays : (l : List Accepted) (w : ℕ) → InWeek w → InWeek (weekday_by l w)
+pub weekdays : (l : List Accepted) (w : ℕ) → InWeek w → InWeek (weekday_by l w)
 weekdays [] w h = h
 weekdays (a ∷ l) w h = weekdays l (weekday_with (meaning_of a) w) (subst InWeek (sym (weekday_same (meaning_of a) w)) (weekday_in (meaning_of a) (meaning_in a.register a.value) w h))
 

@@ -3,6 +3,7 @@ pub mod Masks
 pub mod Written
 pub mod Map
 pub mod Facts
+pub mod Weekdays
 pub mod Bytes
 pub mod RegisterBytes
 pub mod Places
@@ -14,5 +15,6 @@ pub mod ExactTime
 pub mod ReportTotal
 pub mod ConversionTime
 pub mod EightBits
+pub mod Midnights
 pub mod Witness
 pub mod Examples

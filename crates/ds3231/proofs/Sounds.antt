@@ -33,11 +33,12 @@ use Rattle.ds3231.specs.declared.Ds3231Config.{Ds3231Config}
 use Rattle.ds3231.proofs.Written.{left}
 use Rattle.ds3231.proofs.Masks.{control_clear, status_within}
 use Rattle.ds3231.proofs.Facts.{PendingIn, HasPending, TimingIn, RegistersIn, ConfigIn, Sound, sound_test, sound_fact}
+use Rattle.ds3231.proofs.Weekdays.{InWeek, not_set, opened_weekday}
 use Rattle.ds3231.proofs.Bytes.{MeaningIn, meaning_in, noted_in, offset_in, seconds_in, weekday_shown, time_in}
 
 opened_in : (k : Clock) (t : ℕ) → PendingIn (opened k t)
 opened_in k t =
-    let w = weekday_shown k t in
+    let w = subst InWeek (sym (opened_weekday k t)) (weekday_shown k t) in
     record { time = time_in _ (time_in_range (seconds_at k t) (seconds_in k t)); week_from = w.0; week_to = w.1 }
 
 -- ---- the timing's steps
@@ -49,7 +50,7 @@ commit_in c h =
   where
     by : (q : Option PendingTime) → ((committed_clock q c.pending_at c.clock).base_seconds < range) × ((committed_clock q c.pending_at c.clock).weekday_offset ≤ 6)
     by (Some p) = (seconds_below _ (nearest_in_range p.time), offset_in p.weekday _)
-    by None = (h.base, h.offset)
+    by None = subst (λ (k : Clock). (k.base_seconds < range) × (k.weekday_offset ≤ 6)) (sym (not_set c.pending_at c.clock)) (h.base, h.offset)
 
 accept_in : (m : Meaning) → MeaningIn m → (t : ℕ) (c : Timing) → TimingIn c → TimingIn (accept m t c)
 accept_in m i t c h =

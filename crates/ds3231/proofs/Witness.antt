@@ -231,6 +231,9 @@ date_set_lem t = ap (λ (b : Bool). date_time (2000 + (if b then 100 else 0) + 2
 weekday_set : (days n : ℕ) → n ≡ days → (n + offset_with days 3) % 7 + 1 ≡ 3
 weekday_set days n e = ap₂ (λ (x y : ℕ). (x + y) % 7 + 1) e (offset_same days 3 (omega arith)) ∙ offset_gives days 3 (omega arith)
 
+whole : (d : DateTime) → (seconds_of d * nanos + 0 + 100_000_000) / nanos ≡ seconds_of d
+whole d = omega arith
+
 -- the bytes that are latched once they are set, from any model with no transaction under way
 abbrev at_rest : Model → Model
 at_rest m = record { count = m.count; since = m.since; pointer = m.pointer; stage = m.stage; twelve = m.twelve; offset = m.offset; accepted = []; latched = m.latched }
@@ -239,12 +242,12 @@ set_latched : (m : Model) → (model_after (at_rest m) setting).latched ≡ 0x56
 unfolding setting set_time bit to_digits from_digits decimal in_field plain_meaning dial_meaning month_meaning meaning hour_byte field_byte time_bytes
 set_latched m =
     ap (λ (d : DateTime).
-    let n = (seconds_of (clamped d) * nanos + 0 + 100_000_000) % (range * nanos) / nanos in
-    time_bytes (time_of n) ((n / day + offset_with (day_number (clamped d).year (clamped d).month (clamped d).day) 3) % 7 + 1) true) (date_set_lem (time_of (exact (at_rest m) 2_000_200_000 / nanos)))
+    let n = seconds_of (clamped d) * nanos + 0 + 100_000_000 in
+    time_bytes (time_of (n % (range * nanos) / nanos)) ((n / nanos / day + offset_with (day_number (clamped d).year (clamped d).month (clamped d).day) 3) % 7 + 1) true) (date_set_lem (time_of (exact (at_rest m) 2_000_200_000 / nanos)))
     ∙ ap (λ (d : DateTime).
-    let n = (seconds_of d * nanos + 0 + 100_000_000) % (range * nanos) / nanos in
-    time_bytes (time_of n) ((n / day + offset_with (day_number d.year d.month d.day) 3) % 7 + 1) true) (unclamped set_time set_in)
-    ∙ ap (λ (n : ℕ). time_bytes (time_of n) ((n / day + offset_with (day_number 2124 2 28) 3) % 7 + 1) true) (shows set_time 0 100_000_000 set_in (omega arith))
+    let n = seconds_of d * nanos + 0 + 100_000_000 in
+    time_bytes (time_of (n % (range * nanos) / nanos)) ((n / nanos / day + offset_with (day_number d.year d.month d.day) 3) % 7 + 1) true) (unclamped set_time set_in)
+    ∙ ap₂ (λ (n s : ℕ). time_bytes (time_of n) ((s / day + offset_with (day_number 2124 2 28) 3) % 7 + 1) true) (shows set_time 0 100_000_000 set_in (omega arith)) (whole set_time)
     ∙ ap₂ (λ (t : DateTime) (w : ℕ). time_bytes t w true) (time_of_seconds set_time set_in) (weekday_set (day_number 2124 2 28) (seconds_of set_time / day) (seconds_day set_time set_in))
 
 -- the first k READs, and all that comes before them

@@ -1,5 +1,6 @@
 -- The running clock: the time, the weekday and the second that it shows at an instant, and how it is set. Assumes nothing.
-use Rattle.std.specs.Prelude.{ℕ, ◌+◌, ◌-◌, ◌/◌, ◌%◌}
+use Rattle.computed.specs.Prelude.{ℕ, zero, suc, ltb}
+use Rattle.std.specs.Prelude.{◌+◌, ◌-◌, ◌/◌, ◌%◌, if◌then◌else◌}
 use Rattle.calendar.specs.Stated.{time_of, seconds_of, day_number}
 use Rattle.calendar.specs.declared.DateTime.{DateTime}
 use Rattle.ds3231.specs.Numbers.{nanos, range, day}
@@ -18,9 +19,26 @@ seconds_at k t = (k.base_seconds + elapsed k t) % range
 abbrev pub time_at : Clock → ℕ → DateTime
 time_at k t = time_of (seconds_at k t)
 
--- 'Register bytes': weekday is (days since 2000 + offset) mod 7 + 1
+-- Order 7 of document 02: the weekday is a counter that steps at midnight, from 7 to 1
+abbrev pub next_weekday : ℕ → ℕ
+next_weekday w = if ltb w 7 then w + 1 else 1
+
+-- the weekday w, stepped so many times
+unfoldable pub stepped : (times w : ℕ) → ℕ
+stepped zero w = w
+stepped (suc n) w = next_weekday (stepped n w)
+
+-- the midnights that have passed since it was last set, at the base: the second of the day then, and the seconds since
+abbrev pub midnights : Clock → ℕ → ℕ
+midnights k t = (k.base_seconds % day + elapsed k t) / day
+
+-- the weekday that it was set to (`set_shows` of proofs/Midnights.antt). It is kept as an offset; 'Register bytes': (days since 2000 + offset) mod 7 + 1
+abbrev pub weekday_set : Clock → ℕ
+weekday_set k = (k.base_seconds / day + k.weekday_offset) % 7 + 1
+
+-- Order 7 of document 02: it counts midnights since it was last set, over the end of 2199 too
 abbrev pub weekday_at : Clock → ℕ → ℕ
-weekday_at k t = (seconds_at k t / day + k.weekday_offset) % 7 + 1
+weekday_at k t = stepped (midnights k t) (weekday_set k)
 
 -- the instant at which the second running at t began: t itself below the base
 abbrev pub second_start : Clock → ℕ → ℕ

@@ -11,3 +11,4 @@ pub mod Exact
 pub mod Total
 pub mod EightBits
 pub mod ConversionTime
+pub mod Midnights

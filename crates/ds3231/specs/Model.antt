@@ -46,9 +46,13 @@ whole_second m t = exact m t / nanos
 abbrev pub weekday_for : ℕ → ℕ → ℕ
 weekday_for days offset = (days + offset) % 7 + 1
 
+-- Order 7 of document 02: the days since 2000, counted on over the end of 2199 since the count was last set, which is not taken modulo the range here
+abbrev pub days_counted : Model → ℕ → ℕ
+days_counted m t = (m.count + (t - m.since)) / nanos / day
+
 -- the weekday then
 abbrev pub exact_weekday : Model → ℕ → ℕ
-exact_weekday m t = weekday_for (whole_second m t / day) m.offset
+exact_weekday m t = weekday_for (days_counted m t) m.offset
 
 -- 'Shown time and exact time': latched are 0x00 to 0x06 for the count's whole second at that instant, in the hour mode then held, weekday by its rule
 abbrev pub exact_bytes : Model → ℕ → List ℕ

@@ -2,8 +2,8 @@
 // calls mean, document 01's model, the exact time and the report total are definitions and theorems.
 // To read it: of specs/ `Numbers`, `Map`, `Clock`, `Timing`, `Registers`, `Calls`, then `Model`, `Exact` and `Total`; `Changed`
 // has the parts that chip and model say each for itself. docs/EXACT-TIME.md says the theorem in plain words; its proof is
-// `proofs/ExactTime.antt`, and `proofs/Witness.antt` shows that it is not empty. `EightBits` is the claim of the weekday offset, and
-// `ConversionTime` that of the conversion time.
+// `proofs/ExactTime.antt`, and `proofs/Witness.antt` shows that it is not empty. `EightBits` is the claim of the weekday offset,
+// `ConversionTime` that of the conversion time, and `Midnights` that of the weekday.
 #![tactic(auto)]
 
 ghost use Rattle.std.specs.Prelude.{◌≡◌};
@@ -16,8 +16,8 @@ mod pointer;
 
 pub use pointer::NoSuchRegister;
 
-// The running clock: the seconds since 2000 at an instant at which a second of the clock began, and the offset, at most 6, that
-// gives the weekday from the day number.
+// The running clock, as it was last set: the seconds since 2000 at an instant at which a second of the clock began, and the offset,
+// at most 6, that gives the weekday of that day from its number. From there the weekday steps at each midnight, over the end of 2199 too.
 #[derive(Clone, Copy, Debug, PartialEq, Eq)]
 pub struct Clock {
     pub base_seconds: u64,

@@ -1,7 +1,7 @@
 // The running clock: what it shows at an instant, and how it is set.
 ghost use Rattle.std.specs.Prelude.{◌≡◌};
 ghost use Rattle.calendar.specs.Stated.{nearest};
-ghost use Rattle.ds3231.specs.Clock.{seconds_at, time_at, weekday_at, second_start, clock_set};
+ghost use Rattle.ds3231.specs.Clock.{elapsed as elapsed_at, seconds_at, time_at, weekday_at, midnights, second_start, clock_set};
 ghost use Rattle.ds3231.specs.Changed.{offset_for};
 
 use calendar::{DAYS_PER_WEEK, DateTime, SECONDS_IN_RANGE, SECONDS_PER_DAY};
@@ -9,12 +9,18 @@ use ds3231::Clock;
 
 const NANOS_PER_SECOND: u64 = 1_000_000_000;
 
+// The whole seconds since the base. Instants may fall, and none then.
+fn elapsed(clock: Clock, at: u64) -> u64
+    ensures { result ≡ elapsed_at clock at }
+{
+    at.saturating_sub(clock.base_at) / NANOS_PER_SECOND
+}
+
 // The seconds since 2000 that the clock shows.
 fn seconds(clock: Clock, at: u64) -> u64
     ensures { result ≡ seconds_at clock at }
 {
-    let elapsed = at.saturating_sub(clock.base_at) / NANOS_PER_SECOND;
-    (clock.base_seconds % SECONDS_IN_RANGE + elapsed % SECONDS_IN_RANGE) % SECONDS_IN_RANGE
+    (clock.base_seconds % SECONDS_IN_RANGE + elapsed(clock, at)) % SECONDS_IN_RANGE
 }
 
 // The time that it shows.
@@ -24,14 +30,21 @@ pub fn now(clock: Clock, at: u64) -> DateTime
     DateTime::from_wrapped_seconds(seconds(clock, at))
 }
 
-// The weekday that it shows.
+// The weekday that it shows. The days are counted on over the end of 2199, where the date begins at 2000-01-01 again.
 pub(crate) fn weekday(clock: Clock, at: u64) -> u8
     ensures { result ≡ weekday_at clock at }
 {
     calendar::weekday_of_day(
-        seconds(clock, at) / SECONDS_PER_DAY,
+        clock.base_seconds / SECONDS_PER_DAY + midnights(clock, at),
         u64::from(clock.weekday_offset),
     )
+}
+
+// The midnights that have passed since it was set. The sum stays far below 2^64, and is not taken round.
+fn midnights(clock: Clock, at: u64) -> u64
+    ensures { result ≡ midnights clock at }
+{
+    (clock.base_seconds % SECONDS_PER_DAY + elapsed(clock, at)) / SECONDS_PER_DAY
 }
 
 // The instant at which the second running at `at` began.

@@ -19,7 +19,9 @@ pub fn time_registers(timing: Timing, at: u64) -> [u8; 7]
     shown(timing.clock, timing.twelve_hour, at)
 }
 
-// The bytes that a clock shows in an hour mode.
+// The bytes that a clock shows in an hour mode. It is inlined where power-on latches constants: with a call there the run of a
+// script keeps the latched bytes in memory, and is half as fast.
+#[inline]
 pub fn shown(clock: Clock, twelve_hour: bool, at: u64) -> [u8; 7]
     ensures { result ≡ time_bytes (time_at clock at) (weekday_at clock at) twelve_hour }
 {

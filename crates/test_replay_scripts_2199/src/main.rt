@@ -1,5 +1,6 @@
 // Re-runs the recorded scripts in which the clock passes the end of 2199 and prints the listing of each.
-// The file `stdin` is vectors/scripts_2199.in, and `stdout` has the answers of the Rust, vectors/scripts_2199.out.
+// The file `stdin` is vectors/scripts_2199.in. `stdout` is what tools/reference/weekdays writes: the answers of the Rust, vectors/scripts_2199.out,
+// apart from weekdays past the end of 2199.
 // A crate for each input: the gate gives a program one.
 #![tactic(auto)]
 

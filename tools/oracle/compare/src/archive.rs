@@ -1,4 +1,4 @@
-//! The two C calls of the archive, each held to the Rust's check and run of the same script.
+//! The two C calls of the archive, each held to what must be answered to the same script.
 
 use oracle::call::RECORD;
 use oracle::script::{self, Refusal};
@@ -33,15 +33,13 @@ fn returned(refusal: Refusal) -> u32 {
     refusal.number * 65_536 + record
 }
 
-/// The first difference between the archive's calls on `script` and the Rust.
+/// The first difference between the archive's calls on `script` and the Rust's check, with these answers.
 #[must_use]
-pub fn difference(script: &[u8]) -> Option<Difference> {
-    let checked = script::check(script);
-    let status = checked.as_ref().map_or_else(|refusal| returned(*refusal), |_| 0);
-    let answers = checked.map_or_else(|_| Vec::new(), |events| script::run(&events).answers);
+pub fn difference(script: &[u8], answers: &[u8]) -> Option<Difference> {
+    let status = script::check(script).map_or_else(returned, |_| 0);
     let records = script.len() / RECORD;
     same("clock_script_check", &status, &check(script))
-        .or_else(|| run_differs("clock_script_run", script, records, (status, &answers)))
+        .or_else(|| run_differs("clock_script_run", script, records, (status, answers)))
         .or_else(|| run_differs("clock_script_run, one answer byte too many", script, records + 1, longer(status)))
 }
 

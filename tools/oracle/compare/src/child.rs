@@ -1,8 +1,7 @@
-//! One run of a program of this library: it is fed blocks of items, and its answers are taken item by item.
+//! One run of a program: it is fed blocks of items, and its answers are taken item by item.
 
 use std::io::{BufRead, BufReader, Read, Write};
-use std::path::Path;
-use std::process::{Child, ChildStdin, Command, Stdio};
+use std::process::{ChildStdin, Command, Stdio};
 use std::sync::mpsc::{Receiver, Sender, channel};
 use std::thread;
 
@@ -22,22 +21,20 @@ pub struct Form<I> {
     pub add: fn(&I, &mut Vec<u8>),
 }
 
-/// Compares the answer to an item.
-pub type Judge<I> = fn(&Item<I>, &[u8], &mut Tally);
-
 /// Feeds `items` to one run of `program` and gives each, with its answer, to `judge`.
 ///
 /// # Errors
 /// Where the program cannot be run.
 pub fn run<I: Send>(
-    program: &Path,
+    mut program: Command,
     form: &Form<I>,
     items: impl Iterator<Item = Item<I>> + Send,
-    judge: Judge<I>,
+    judge: impl FnMut(&Item<I>, &[u8], &mut Tally),
     tally: &mut Tally,
 ) -> Result<(), String> {
-    let name = program.display();
-    let mut child = spawned(program).map_err(|error| format!("{name}: {error}"))?;
+    let name = program.get_program().to_string_lossy().into_owned();
+    let mut child =
+        program.stdin(Stdio::piped()).stdout(Stdio::piped()).spawn().map_err(|error| format!("{name}: {error}"))?;
     let input = child.stdin.take().ok_or("standard input is no pipe")?;
     let output = child.stdout.take().ok_or("standard output is no pipe")?;
     let sections = Sections { output: Some(BufReader::with_capacity(1 << 18, output)), word: form.word, title: None };
@@ -54,10 +51,6 @@ pub fn run<I: Send>(
         tally.fault(&format!("{name} ends with {status}"));
     }
     Ok(())
-}
-
-fn spawned(program: &Path) -> std::io::Result<Child> {
-    Command::new(program).stdin(Stdio::piped()).stdout(Stdio::piped()).spawn()
 }
 
 /// Writes the items in blocks. A write that fails is not reported: its items then have no answer.
@@ -91,7 +84,7 @@ fn send<I>(block: Vec<Item<I>>, kind: u8, file: &[u8], input: &mut ChildStdin, s
 fn judge_all<I>(
     blocks: Receiver<Vec<Item<I>>>,
     mut sections: Sections<impl Read>,
-    judge: Judge<I>,
+    mut judge: impl FnMut(&Item<I>, &[u8], &mut Tally),
     tally: &mut Tally,
 ) -> bool {
     for block in blocks {

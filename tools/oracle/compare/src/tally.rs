@@ -6,7 +6,7 @@ const PRINTED: usize = 20;
 /// Two answers that differ, and where.
 pub struct Difference {
     pub place: String,
-    /// The published Rust's answer.
+    /// The answer of the published Rust, or of the reference.
     pub rust: String,
     /// This library's answer.
     pub here: String,
@@ -79,7 +79,7 @@ impl Tally {
             return;
         }
         println!("different: {family}, item {number}, seed {}: {}", self.seed, first.place);
-        println!("  the Rust: {}", first.rust);
+        println!("  expected: {}", first.rust);
         println!("  here:     {}", first.here);
     }
 

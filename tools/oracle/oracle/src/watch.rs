@@ -8,6 +8,7 @@ use crate::call::Call;
 /// The seconds from 2000-01-01 to the end of 2199.
 const SECONDS_IN_RANGE: u64 = 6_311_433_600;
 const NANOS_PER_SECOND: u64 = 1_000_000_000;
+const WEEKDAY: u8 = 0x03;
 const STATUS: u8 = 0x0F;
 
 /// What a list or script is about.
@@ -26,7 +27,6 @@ pub enum Class {
 struct Seen {
     alarm_written: bool,
     status_read: bool,
-    wrapped: bool,
 }
 
 /// The class of a list of calls, found by running it.
@@ -34,6 +34,9 @@ struct Seen {
 /// # Errors
 /// Where a call has no answer.
 pub fn class(list: &[Call]) -> Result<Class, String> {
+    if passes_the_end(list)? {
+        return Ok(Class::Wrapped);
+    }
     let mut bench = Bench::default();
     let mut seen = Seen::default();
     let mut answers = String::new();
@@ -42,28 +45,53 @@ pub fn class(list: &[Call]) -> Result<Class, String> {
             seen.before(&Inside::of(chip), *call);
         }
         bench.call(*call, &mut answers)?;
-        if let (Some(chip), Some(at)) = (bench.chip(), call.at()) {
-            seen.wrapped |= Inside::of(chip).past_the_end(at);
+    }
+    Ok(if seen.status_read { Class::Alarm } else { Class::Plain })
+}
+
+/// Whether the clock passes the end of 2199 in a list of calls.
+///
+/// # Errors
+/// Where a call has no answer.
+pub fn passes_the_end(list: &[Call]) -> Result<bool, String> {
+    let mut bench = Bench::default();
+    let mut answers = String::new();
+    let mut clock: Option<Inside> = None;
+    let past = |clock: &Option<Inside>, at: Option<u64>| {
+        clock.as_ref().zip(at).is_some_and(|(clock, at)| clock.past_the_end(at))
+    };
+    for call in list {
+        let before = past(&clock, call.at());
+        bench.call(*call, &mut answers)?;
+        if matches!(call, Call::Power { .. } | Call::Start { .. } | Call::Stop { .. }) {
+            clock = bench.chip().map(Inside::of);
+        }
+        if before || past(&clock, call.at()) {
+            return Ok(true);
         }
     }
-    Ok(match seen {
-        Seen { wrapped: true, .. } => Class::Wrapped,
-        Seen { status_read: true, .. } => Class::Alarm,
-        _ => Class::Plain,
-    })
+    Ok(false)
+}
+
+/// For each call of a list whether its answer is the weekday register.
+///
+/// # Errors
+/// Where a call has no answer.
+pub fn weekday_answers(list: &[Call]) -> Result<Vec<bool>, String> {
+    let mut bench = Bench::default();
+    let mut answers = String::new();
+    list.iter()
+        .map(|call| {
+            let shows = bench.chip().is_some_and(|chip| Inside::of(chip).answers(*call, WEEKDAY));
+            bench.call(*call, &mut answers)?;
+            Ok(shows)
+        })
+        .collect()
 }
 
 impl Seen {
     fn before(&mut self, chip: &Inside, call: Call) {
-        if let Some(at) = call.at() {
-            self.wrapped |= chip.past_the_end(at);
-        }
-        let reads_status = match call {
-            Call::Read { .. } => chip.phase == "Reading" && chip.pointer == STATUS.into(),
-            Call::Register { register, .. } => register == STATUS,
-            _ => false,
-        };
-        self.status_read |= reads_status && self.alarm_written;
+        self.status_read |= chip.answers(call, STATUS) && self.alarm_written;
         let writes = matches!(call, Call::Write { .. }) && chip.phase == "Writing";
         self.alarm_written |= writes && (0x07..=0x0D).contains(&chip.pointer);
     }
@@ -86,6 +114,15 @@ impl Inside {
             pointer: number("pointer: "),
             base_seconds: number("base_seconds: "),
             base_at: number("base_at: Nanos("),
+        }
+    }
+
+    /// Whether the answer to `call` is that of the register `wanted`.
+    fn answers(&self, call: Call, wanted: u8) -> bool {
+        match call {
+            Call::Read { .. } => self.phase == "Reading" && self.pointer == wanted.into(),
+            Call::Register { register, .. } => register == wanted,
+            _ => false,
         }
     }
 

@@ -1,0 +1,64 @@
+-- The weekday that a clock shows, by a formula: stepping at each midnight is adding the days.
+-- Assumes nothing.
+use mathlib.Core.Bool.{Bool, true, false, ◌&&◌}
+use mathlib.Core.Path.{◌≡◌, refl, ap, subst, ◌∙◌}
+use Prim.Native.Nat.{ℕ, zero, suc, ◌+◌, ◌/◌, ◌%◌, ◌≤◌}
+use native.Mathlib.Omega.{arith}
+use borrow.Author.Tests.{eqb-true}
+use lib.Dec.{eqb}
+use Rattle.std.specs.Prelude.{if◌then◌else◌, None}
+use Rattle.computed.proofs.Choice.{by_lt}
+use Rattle.fields.specs.Table.{Meaning, undefined, sets, from_digits, decimal, in_field, plain_meaning, meaning}
+use Rattle.fields.proofs.Laws.{in_field_lem, field_bounds}
+use Rattle.ds3231.specs.Numbers.{day}
+use Rattle.ds3231.specs.Clock.{next_weekday, stepped, midnights, weekday_set, weekday_at}
+use Rattle.ds3231.specs.Changed.{changed_weekday}
+use Rattle.ds3231.specs.Timing.{is_defined, opened, committed_clock}
+use Rattle.ds3231.specs.declared.Clock.{Clock}
+
+abbrev pub InWeek : ℕ → Type 0
+InWeek w = (1 ≤ w) × (w ≤ 7)
+
+-- one step from the weekday of a day
+pub step : (n w : ℕ) → w ≡ n % 7 + 1 → next_weekday w ≡ suc n % 7 + 1
+step n w e = by_lt (λ (z : ℕ). z ≡ suc n % 7 + 1) w 7 (λ p. omega arith) (λ p. omega arith)
+
+steps : (times n w : ℕ) → w ≡ n % 7 + 1 → stepped times w ≡ (n + times) % 7 + 1
+unfolding stepped
+steps zero n w e = omega arith
+steps (suc k) n w e = step (n + k) (stepped k w) (steps k n w e) ∙ omega arith
+
+-- the days since 2000 when it was set, the midnights since, and the offset
+pub counted_on : (k : Clock) (t : ℕ) → weekday_at k t ≡ (k.base_seconds / day + midnights k t + k.weekday_offset) % 7 + 1
+counted_on k t = omega (arith, steps (midnights k t) (k.base_seconds / day + k.weekday_offset) (weekday_set k) refl)
+
+-- a transaction without an accepted byte sets no clock
+pub not_set : (t : ℕ) (k : Clock) → committed_clock None t k ≡ k
+not_set t k = refl
+
+-- the first accepted byte of a transaction finds the counted weekday
+pub opened_weekday : (k : Clock) (t : ℕ) → (opened k t).weekday ≡ weekday_at k t
+opened_weekday k t = refl
+
+-- a weekday byte that is defined is its number
+weekday_number : (b q n : ℕ) (flag : Bool) → meaning 3 b ≡ sets q n flag → n ≡ b
+unfolding meaning plain_meaning from_digits
+weekday_number b q n flag e = by (decimal b && in_field 3 (from_digits b)) e
+  where
+    by : (c : Bool) → (if c then sets 3 (from_digits b) false else undefined) ≡ sets q n flag → n ≡ b
+    by true f =
+        let z : from_digits b ≡ n = cc in
+        let i = (field_bounds 3 n (in_field_lem 3 b q n flag e).1).weekday refl in
+        omega (arith, i)
+    by false f = cc
+
+pub weekday_byte : (r b w : ℕ) → is_defined (meaning r b) ≡ true → changed_weekday (meaning r b) w ≡ (if eqb r 3 then b else w)
+weekday_byte r b w h = by (meaning r b) refl h
+  where
+    at_3 : (q n : ℕ) (flag : Bool) → meaning r b ≡ sets q n flag → (x : Bool) → eqb r 3 ≡ x → (if x then n else w) ≡ (if x then b else w)
+    at_3 q n flag e true x = weekday_number b q n flag (subst (λ (k : ℕ). meaning k b ≡ sets q n flag) (eqb-true r 3 x) e)
+    at_3 q n flag e false x = refl
+
+    by : (m : Meaning) → meaning r b ≡ m → is_defined m ≡ true → changed_weekday m w ≡ (if eqb r 3 then b else w)
+    by undefined e d = cc
+    by (sets q n flag) e d = ap (λ (x : ℕ). if eqb x 3 then n else w) (in_field_lem r b q n flag e).0 ∙ at_3 q n flag e (eqb r 3) refl

@@ -4,11 +4,11 @@ use mathlib.Core.List.{[]}
 use mathlib.Core.Path.{◌≡◌, sym, ap, subst, ◌∙◌}
 use Prim.Native.Nat.{ℕ, ◌+◌, ◌*◌, ◌/◌, ◌%◌, ◌≤◌, ◌<◌}
 use Rattle.refusals.specs.Numbered.{accepted, refused}
-use Rattle.gregorian.specs.Calendar.{month_length}
+use Rattle.gregorian.specs.Calendar.{month_length, next_weekday}
 use Rattle.gregorian.specs.DayNumbers.{day_number}
 use Rattle.gregorian.specs.Times.{Time, checked_seconds, seconds_to, weekday_on}
 use Rattle.gregorian.proofs.Months as Months
-use Rattle.gregorian.proofs.Weekdays.{weekday_of_day_lem}
+use Rattle.gregorian.proofs.Weekdays.{next_weekday_lem, weekday_of_day_lem}
 use Rattle.gregorian.proofs.Checked.{valid_accepted, accepted_valid}
 use Rattle.gregorian.proofs.Seconds as Seconds
 use Rattle.gregorian.proofs.Nearest as Nearest
@@ -60,6 +60,10 @@ weekday_on_lem t = weekday_of_day_lem _
 
 pub weekday_formula : (t : DateTime) → weekday_of t ≡ (day_number t.year t.month t.day + 5) % 7 + 1
 weekday_formula t = equations.weekday_of_is t ∙ weekday_on_lem (as_time t)
+
+-- the day of the week after w
+pub next_weekday_formula : (w : ℕ) → 1 ≤ w → w ≤ 7 → next_weekday w ≡ w % 7 + 1
+next_weekday_formula = next_weekday_lem
 
 -- the nearest time is in range, and a time in range is its own
 pub nearest_in_range : (t : DateTime) → InRange (nearest t)

@@ -13,7 +13,7 @@ use Rattle.std.specs.Prelude.{if◌then◌else◌, Option, Some, None}
 use Rattle.refusals.specs.Numbered.{Numbered, accepted, refused, is_accepted, and_then, unless}
 use Rattle.computed.specs.Entries.{At}
 use Rattle.computed.proofs.Choice.{chosen, both, both_true}
-use Rattle.calendar.specs.Stated.{InRange, checked_seconds, time_of, seconds_of, date_time, weekday_of, nearest, day_number}
+use Rattle.calendar.specs.Stated.{InRange, checked_seconds, time_of, seconds_of, date_time, weekday_of, nearest, day_number, next_weekday}
 use Rattle.calendar.specs.declared.DateTime.{DateTime}
 use Rattle.calendar.proofs.Examples.{examples}
 use Rattle.calendar.proofs.Laws.{weekday_formula, seconds_accepted, seconds_of_time, time_in_range, time_of_seconds, seconds_below, seconds_formula, seconds_day, nearest_in_range}
@@ -23,12 +23,12 @@ use Rattle.fields.proofs.Laws.{seven_bytes}
 use Rattle.diagnostics.specs.declared.I2cDiagnostic.{I2cDiagnostic}
 use Rattle.ds3231.specs.Numbers.{nanos, range, day}
 use Rattle.ds3231.specs.Types.{Register, Weekday}
-use Rattle.ds3231.specs.Clock.{elapsed, seconds_at, time_at, next_weekday, stepped, midnights, weekday_set, weekday_at, clock_set}
+use Rattle.ds3231.specs.Clock.{elapsed, seconds_at, time_at, stepped, midnights, weekday_set, weekday_at, clock_set}
 use Rattle.ds3231.specs.Timing.{is_defined, sets_seconds, found, noted, found_at, clock_from, committed_clock, shown_at, pointed_by, commit}
 use Rattle.ds3231.specs.Map.{number_of, Names, named}
 use Rattle.ds3231.specs.Registers.{byte_at}
 use Rattle.ds3231.specs.Calls.{sound, chip_on, power_on, shown_time, now_answer, register_answer, Call, bus, taking, verdict, chip_by, chip_after, written, has_read}
-use Rattle.ds3231.specs.Model.{Accepted, Model, exact, whole_second, weekday_for, exact_weekday, exact_bytes, date_with, date_by, weekday_by, offset_with, Instant, never, at, last_seconds, part_second, date_set, closed_by}
+use Rattle.ds3231.specs.Model.{Accepted, Model, exact, whole_second, weekday_for, exact_weekday, exact_bytes, date_with, date_by, weekday_by, offset_with, Instant, never, at, last_seconds, holds_at, part_second, date_set, closed_by}
 use Rattle.ds3231.specs.Exact.{events, NeverFall, last_instant, after}
 use Rattle.ds3231.specs.Midnights.{at_midnight, a_second_on, ends, is_pending, sets_clock, in_writing, writes_time, accepts, weekday_answer, Finds, Pends, IsSet, Counts, ModelCounts, ShowsModel, CountsMidnights}
 use Rattle.ds3231.specs.declared.Clock.{Clock}
@@ -40,7 +40,7 @@ use Rattle.ds3231.specs.declared.Event.TheVariants.{Start, Write, Read, Stop}
 use Rattle.ds3231.specs.declared.Ds3231.{Ds3231}
 use Rattle.ds3231.specs.declared.Ds3231Config.{Ds3231Config}
 use Rattle.ds3231.proofs.Facts.{TimeIn, HasPending, sound_fact, sound_test, same_test}
-use Rattle.ds3231.proofs.Weekdays.{InWeek, step, counted_on, not_set, opened_weekday, weekday_byte}
+use Rattle.ds3231.proofs.Weekdays.{InWeek, step, counted_on, not_set, opened_weekday, seconds_byte, weekday_byte}
 use Rattle.ds3231.proofs.Bytes.{meaning_in, changed_in, seconds_in, time_in}
 use Rattle.ds3231.proofs.Sounds.{sound_kept, on_sound}
 use Rattle.ds3231.proofs.PowersOn.{on_chip}
@@ -166,7 +166,14 @@ module _ (c : Ds3231) (sound_c : sound c ≡ true) where
   same t u e =
       weekday_answered c t sound_c ∙ ap (λ (n : ℕ). accepted (stepped ((k.base_seconds % day + n) / day) (weekday_set k))) e ∙ sym (weekday_answered c u sound_c)
 
-  by_formula : (t : ℕ) → k.base_seconds + elapsed k t < range → weekday_answer c t ≡ accepted ((seconds_at k t / day + k.weekday_offset) % 7 + 1)
+  below_base : (t : ℕ) → t ≤ k.base_at → (now_answer c t ≡ now_answer c k.base_at) × (weekday_answer c t ≡ weekday_answer c k.base_at)
+  below_base t h =
+      let e : elapsed k t ≡ elapsed k k.base_at = omega arith in (
+        asked c (accepted (shown_time c t)) sound_c ∙ ap (λ (n : ℕ). accepted (time_of ((k.base_seconds + n) % range))) e ∙ sym (asked c (accepted (shown_time c k.base_at)) sound_c),
+        same t k.base_at e,
+      )
+
+  by_formula : (t : ℕ) → let s = k.base_seconds + (t - k.base_at) / nanos in s < range → weekday_answer c t ≡ accepted ((s / day + k.weekday_offset) % 7 + 1)
   by_formula t h = weekday_answered c t sound_c ∙ ap accepted (counted_on k t ∙ omega arith)
 
   -- a call that ends a transaction makes the pending time the clock
@@ -293,17 +300,36 @@ module _ (c : Ds3231) (sound_c : sound c ≡ true) where
         weekday_byte r b (found c.timing.pending k t).weekday y.1 ∙ ap (λ (x : ℕ). if eqb r 0x03 then b else x) (found_is c.timing.pending t w f),
       )
 
+  begins_by : (q : Option PendingTime) (x : Bool) (b t : ℕ)
+      → (if x then t else found_at q b k t) ≡ (if x then t else if is_pending q then b else t - (t - k.base_at) % nanos)
+  begins_by (Some p) x b t = refl
+  begins_by None x b t = refl
+
+  begins_at_byte : (s : List I2cDiagnostic) (b t : ℕ) → accepts (bus s (Write b t)) c ≡ true
+      → (chip_after (bus s (Write b t)) c).timing.pending_at
+      ≡ (if eqb (number_of c.timing.pointer) 0x00 then t else if is_pending c.timing.pending then c.timing.pending_at else t - (t - k.base_at) % nanos)
+  begins_at_byte s b t e =
+      let r = number_of c.timing.pointer in
+      let m = meaning r b in
+      let z = both _ _ e in
+      let y = both _ _ z.1 in
+      ap (λ (v : Numbered (Unit {0})). (unless v (chip_by (bus s (Write b t)) c) c).timing.pending_at) (is_accepted_lem (verdict (bus s (Write b t)) c) z.0)
+      ∙ ap (λ (p : Phase). (written p b t c).timing.pending_at) (writing_phase c.timing.phase y.0)
+      ∙ ap (λ (x : Bool). if x then (if sets_seconds m then t else found_at c.timing.pending c.timing.pending_at k t) else c.timing.pending_at) y.1
+      ∙ ap (λ (x : Bool). if x then t else found_at c.timing.pending c.timing.pending_at k t) (seconds_byte r b y.1) ∙ begins_by c.timing.pending (eqb r 0x00) c.timing.pending_at t
+
   counted : Counts c
   counted =
       record {
         steps = steps_by;
         into_2000 = into;
         same_second = same;
-        below = λ t h. same t k.base_at (omega arith);
+        below = below_base;
         formula = by_formula;
         is_set = is_set_by;
         is_kept = kept;
         carried = carries;
+        begins = begins_at_byte;
         pending_kept = λ x e f. let z = leaves x e f in (z.1, z.2);
       }
 
@@ -336,7 +362,7 @@ module _ (m : Model) where
   part_below never first = omega arith
   part_below (at t) first = omega arith
 
-  sets_model : (a : Accepted) (l : List Accepted) → let n = closed_by (a ∷ l) m in exact_weekday n n.since ≡ weekday_by (a ∷ l) (exact_weekday m a.at)
+  sets_model : (a : Accepted) (l : List Accepted) → exact_weekday (closed_by (a ∷ l) m) (holds_at (last_seconds (a ∷ l) never) a.at) ≡ weekday_by (a ∷ l) (exact_weekday m a.at)
   sets_model a l =
       let d = date_set (a ∷ l) a.at m in
       let w = weekday_by (a ∷ l) (exact_weekday m a.at) in

@@ -7,13 +7,14 @@ use native.Mathlib.Omega.{arith}
 use borrow.Author.Tests.{eqb-true}
 use lib.Dec.{eqb}
 use Rattle.std.specs.Prelude.{if◌then◌else◌, None}
-use Rattle.computed.proofs.Choice.{by_lt}
+use Rattle.calendar.specs.Stated.{next_weekday}
+use Rattle.calendar.proofs.Laws.{next_weekday_formula}
 use Rattle.fields.specs.Table.{Meaning, undefined, sets, from_digits, decimal, in_field, plain_meaning, meaning}
 use Rattle.fields.proofs.Laws.{in_field_lem, field_bounds}
 use Rattle.ds3231.specs.Numbers.{day}
-use Rattle.ds3231.specs.Clock.{next_weekday, stepped, midnights, weekday_set, weekday_at}
+use Rattle.ds3231.specs.Clock.{stepped, midnights, weekday_set, weekday_at}
 use Rattle.ds3231.specs.Changed.{changed_weekday}
-use Rattle.ds3231.specs.Timing.{is_defined, opened, committed_clock}
+use Rattle.ds3231.specs.Timing.{is_defined, sets_seconds, opened, committed_clock}
 use Rattle.ds3231.specs.declared.Clock.{Clock}
 
 abbrev pub InWeek : ℕ → Type 0
@@ -21,7 +22,7 @@ InWeek w = (1 ≤ w) × (w ≤ 7)
 
 -- one step from the weekday of a day
 pub step : (n w : ℕ) → w ≡ n % 7 + 1 → next_weekday w ≡ suc n % 7 + 1
-step n w e = by_lt (λ (z : ℕ). z ≡ suc n % 7 + 1) w 7 (λ p. omega arith) (λ p. omega arith)
+step n w e = next_weekday_formula w (omega (arith, e)) (omega (arith, e)) ∙ omega (arith, e)
 
 steps : (times n w : ℕ) → w ≡ n % 7 + 1 → stepped times w ≡ (n + times) % 7 + 1
 unfolding stepped
@@ -39,6 +40,14 @@ not_set t k = refl
 -- the first accepted byte of a transaction finds the counted weekday
 pub opened_weekday : (k : Clock) (t : ℕ) → (opened k t).weekday ≡ weekday_at k t
 opened_weekday k t = refl
+
+-- a byte that is defined sets the seconds where it goes to their register
+pub seconds_byte : (r b : ℕ) → is_defined (meaning r b) ≡ true → sets_seconds (meaning r b) ≡ eqb r 0
+seconds_byte r b h = by (meaning r b) refl h
+  where
+    by : (m : Meaning) → meaning r b ≡ m → is_defined m ≡ true → sets_seconds m ≡ eqb r 0
+    by undefined e d = cc
+    by (sets q n flag) e d = ap (λ (x : ℕ). eqb x 0) (in_field_lem r b q n flag e).0
 
 -- a weekday byte that is defined is its number
 weekday_number : (b q n : ℕ) (flag : Bool) → meaning 3 b ≡ sets q n flag → n ≡ b

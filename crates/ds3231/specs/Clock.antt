@@ -1,7 +1,7 @@
 -- The running clock: the time, the weekday and the second that it shows at an instant, and how it is set. Assumes nothing.
-use Rattle.computed.specs.Prelude.{ℕ, zero, suc, ltb}
-use Rattle.std.specs.Prelude.{◌+◌, ◌-◌, ◌/◌, ◌%◌, if◌then◌else◌}
-use Rattle.calendar.specs.Stated.{time_of, seconds_of, day_number}
+use Rattle.computed.specs.Prelude.{ℕ, zero, suc}
+use Rattle.std.specs.Prelude.{◌+◌, ◌-◌, ◌/◌, ◌%◌}
+use Rattle.calendar.specs.Stated.{time_of, seconds_of, day_number, next_weekday}
 use Rattle.calendar.specs.declared.DateTime.{DateTime}
 use Rattle.ds3231.specs.Numbers.{nanos, range, day}
 use Rattle.ds3231.specs.Changed.{offset_for}
@@ -19,11 +19,7 @@ seconds_at k t = (k.base_seconds + elapsed k t) % range
 abbrev pub time_at : Clock → ℕ → DateTime
 time_at k t = time_of (seconds_at k t)
 
--- Order 7 of document 02: the weekday is a counter that steps at midnight, from 7 to 1
-abbrev pub next_weekday : ℕ → ℕ
-next_weekday w = if ltb w 7 then w + 1 else 1
-
--- the weekday w, stepped so many times
+-- Order 7 of document 02: the weekday is a counter that steps at midnight. The weekday w, stepped so many times; after 7 comes 1
 unfoldable pub stepped : (times w : ℕ) → ℕ
 stepped zero w = w
 stepped (suc n) w = next_weekday (stepped n w)

@@ -21,7 +21,7 @@ pub record Accepted : Type 0 where
   pub value : ℕ
   pub at : ℕ
 
--- the exact count is `count` at the instant `since`; `accepted` are the accepted bytes of the transaction under way, the first one first
+-- the exact count was last set at the instant `since`, to `count`; `accepted` are the accepted bytes of the transaction under way, the first one first
 pub record Model : Type 0 where
   pub count : ℕ
   pub since : ℕ
@@ -46,7 +46,7 @@ whole_second m t = exact m t / nanos
 abbrev pub weekday_for : ℕ → ℕ → ℕ
 weekday_for days offset = (days + offset) % 7 + 1
 
--- Order 7 of document 02: the days since 2000, counted on over the end of 2199 since the count was last set, which is not taken modulo the range here
+-- Order 7 of document 02: the day since 2000 on which the count was last set, and one for each midnight since. The count is not taken modulo the range here, so that the end of 2199 is a midnight as any other
 abbrev pub days_counted : Model → ℕ → ℕ
 days_counted m t = (m.count + (t - m.since)) / nanos / day
 

@@ -5,34 +5,23 @@ use oracle::call::Call;
 use oracle::file::add_list;
 use oracle::watch::{self, weekday_answers};
 
-use crate::child::Form;
+use crate::child::Kind;
 use crate::family::Item;
 use crate::tally::{Difference, Tally};
 use crate::weekdays::lines;
 
-/// How lists are sent, and their answers titled.
-pub const FORM: Form<Vec<Call>> = Form { kind: 0, word: "list", add: |list, file| add_list(list, file) };
-
-/// Whether the clock passes the end of 2199.
-#[must_use]
-pub fn passes_the_end(list: &[Call]) -> bool {
-    watch::passes_the_end(list) == Ok(true)
-}
-
-/// What must be answered to a list, as text.
-///
-/// # Panics
-/// Where the Rust has no answer to a call.
-#[must_use]
-pub fn expected(list: &[Call], reference: Option<&[u8]>) -> Vec<u8> {
-    answers_to(list, reference).concat()
-}
+/// Lists. The Rust answers every call of them.
+pub const LISTS: Kind<Vec<Call>> = Kind {
+    number: 0,
+    word: "list",
+    add: |list, file| add_list(list, file),
+    passes_the_end: |list| watch::passes_the_end(list) == Ok(true),
+    expected: |list, reference| answers_to(list, reference).concat(),
+    judge,
+};
 
 /// Compares the answers to a list with what must be answered.
-///
-/// # Panics
-/// Where the Rust has no answer to a call.
-pub fn judge(item: &Item<Vec<Call>>, reference: Option<&[u8]>, answers: &[u8], tally: &mut Tally) {
+fn judge(item: &Item<Vec<Call>>, reference: Option<&[u8]>, answers: &[u8], tally: &mut Tally) {
     let expected = answers_to(&item.input, reference);
     let (different, first) =
         if answers == expected.concat() { (0, None) } else { differences(&item.input, &expected, answers) };

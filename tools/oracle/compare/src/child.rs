@@ -11,15 +11,24 @@ use crate::tally::Tally;
 /// The bytes of the longest file of items that the program takes in a block, beside the block's kind.
 const LONGEST: usize = 65_535;
 
-/// What the program is fed and how it titles its answers.
-pub struct Form<I> {
+/// A kind of items: what a program is fed, how it titles its answers, and what these must be.
+pub struct Kind<I> {
     /// The first byte of a block.
-    pub kind: u8,
+    pub number: u8,
     /// The word of an item's title: `list` or `script`.
     pub word: &'static str,
     /// Adds an item to a file.
     pub add: fn(&I, &mut Vec<u8>),
+    /// Whether the clock passes the end of 2199 in an item.
+    pub passes_the_end: fn(&I) -> bool,
+    /// What must be answered to an item: what the Rust answers, and of the weekday what the reference answers, where it was asked.
+    pub expected: fn(&I, Option<&[u8]>) -> Vec<u8>,
+    /// Asked with the reference's answers to the item, where there are some, and then the answers to compare.
+    pub judge: Judge<I>,
 }
+
+/// Compares the answers to an item with what must be answered.
+pub type Judge<I> = fn(&Item<I>, Option<&[u8]>, &[u8], &mut Tally);
 
 /// Feeds `items` to one run of `program` and gives each, with its answer, to `judge`.
 ///
@@ -27,7 +36,7 @@ pub struct Form<I> {
 /// Where the program cannot be run.
 pub fn run<I: Send>(
     mut program: Command,
-    form: &Form<I>,
+    kind: &Kind<I>,
     items: impl Iterator<Item = Item<I>> + Send,
     judge: impl FnMut(&Item<I>, &[u8], &mut Tally),
     tally: &mut Tally,
@@ -37,10 +46,10 @@ pub fn run<I: Send>(
         program.stdin(Stdio::piped()).stdout(Stdio::piped()).spawn().map_err(|error| format!("{name}: {error}"))?;
     let input = child.stdin.take().ok_or("standard input is no pipe")?;
     let output = child.stdout.take().ok_or("standard output is no pipe")?;
-    let sections = Sections { output: Some(BufReader::with_capacity(1 << 18, output)), word: form.word, title: None };
+    let sections = Sections { output: Some(BufReader::with_capacity(1 << 18, output)), word: kind.word, title: None };
     let (sender, receiver) = channel();
     let more = thread::scope(|scope| {
-        scope.spawn(|| feed(items, form, input, sender));
+        scope.spawn(|| feed(items, kind, input, sender));
         judge_all(receiver, sections, judge, tally)
     });
     if more {
@@ -54,20 +63,20 @@ pub fn run<I: Send>(
 }
 
 /// Writes the items in blocks. A write that fails is not reported: its items then have no answer.
-fn feed<I>(items: impl Iterator<Item = Item<I>>, form: &Form<I>, mut input: ChildStdin, sender: Sender<Vec<Item<I>>>) {
+fn feed<I>(items: impl Iterator<Item = Item<I>>, kind: &Kind<I>, mut input: ChildStdin, sender: Sender<Vec<Item<I>>>) {
     let mut file = Vec::new();
     let mut block = Vec::new();
     for item in items {
         let mut bytes = Vec::new();
-        (form.add)(&item.input, &mut bytes);
+        (kind.add)(&item.input, &mut bytes);
         assert!(bytes.len() <= LONGEST, "{}, item {}, fits no block", item.family, item.number);
         if file.len() + bytes.len() > LONGEST {
-            send(std::mem::take(&mut block), form.kind, &std::mem::take(&mut file), &mut input, &sender);
+            send(std::mem::take(&mut block), kind.number, &std::mem::take(&mut file), &mut input, &sender);
         }
         file.extend(bytes);
         block.push(item);
     }
-    send(block, form.kind, &file, &mut input, &sender);
+    send(block, kind.number, &file, &mut input, &sender);
 }
 
 /// Sends a block's items to be judged, then writes the block. Sending waits for nothing, so that a program which answers

@@ -13,6 +13,8 @@ mod weekdays;
 
 use std::process::{Command, ExitCode};
 
+use child::Kind;
+use family::{Family, Item};
 use tally::Tally;
 use weekdays::Weekdays;
 
@@ -30,8 +32,10 @@ fn main() -> ExitCode {
     };
     println!("seed {seed}");
     let mut tally = Tally::new(seed);
-    let lists = compare_lists(seed, program, reference, &mut tally);
-    if let Err(error) = lists.and_then(|()| compare_scripts(seed, program, reference, &mut tally)) {
+    let programs = (program.as_str(), reference.as_str());
+    let lists = compare(|| family::lists(seed), &calls::LISTS, programs, &mut tally);
+    let both = lists.and_then(|()| compare(|| family::scripts(seed), &scripts::SCRIPTS, programs, &mut tally));
+    if let Err(error) = both {
         tally.fault(&error);
     }
     verdict(&mut tally)
@@ -42,28 +46,21 @@ fn failed(error: &str) -> ExitCode {
     ExitCode::FAILURE
 }
 
-fn compare_lists(seed: u64, program: &str, reference: &str, tally: &mut Tally) -> Result<(), String> {
-    let items = || family::items(family::lists(seed));
-    let asked = items().filter(|item| calls::passes_the_end(&item.input));
+/// Compares the items of families: first the reference is asked of those whose clock passes the end of 2199.
+fn compare<I: Send>(
+    families: impl Fn() -> Vec<Family<I>>,
+    kind: &Kind<I>,
+    (program, reference): (&str, &str),
+    tally: &mut Tally,
+) -> Result<(), String> {
+    let asked = family::items(families()).filter(|item| (kind.passes_the_end)(&item.input));
     let mut weekdays = Weekdays::default();
-    let expected = |list: &Vec<_>, reference: Option<&[u8]>| calls::expected(list, reference);
-    let keep = |item: &_, answers: &[u8], tally: &mut _| weekdays.keep(item, answers, expected, tally);
-    child::run(asking(reference), &calls::FORM, asked, keep, tally)?;
-    weekdays.print("lists", tally);
-    let judge = |item: &_, answers: &[u8], tally: &mut _| calls::judge(item, weekdays.of(item), answers, tally);
-    child::run(Command::new(program), &calls::FORM, items(), judge, tally)
-}
-
-fn compare_scripts(seed: u64, program: &str, reference: &str, tally: &mut Tally) -> Result<(), String> {
-    let items = || family::items(family::scripts(seed));
-    let asked = items().filter(|item| scripts::passes_the_end(&item.input));
-    let mut weekdays = Weekdays::default();
-    let expected = |script: &Vec<_>, reference: Option<&[u8]>| scripts::expected(script, reference);
-    let keep = |item: &_, answers: &[u8], tally: &mut _| weekdays.keep(item, answers, expected, tally);
-    child::run(asking(reference), &scripts::FORM, asked, keep, tally)?;
-    weekdays.print("scripts", tally);
-    let judge = |item: &_, answers: &[u8], tally: &mut _| scripts::judge(item, weekdays.of(item), answers, tally);
-    child::run(Command::new(program), &scripts::FORM, items(), judge, tally)
+    let keep = |item: &Item<I>, answers: &[u8], tally: &mut Tally| weekdays.keep(item, answers, kind.expected, tally);
+    child::run(asking(reference), kind, asked, keep, tally)?;
+    weekdays.print(kind.word, tally);
+    let judge =
+        |item: &Item<I>, answers: &[u8], tally: &mut Tally| (kind.judge)(item, weekdays.of(item), answers, tally);
+    child::run(Command::new(program), kind, family::items(families()), judge, tally)
 }
 
 /// The reference, which answers blocks as the program does.

@@ -6,23 +6,23 @@ use oracle::script;
 use oracle::watch::{self, weekday_answers};
 
 use crate::archive;
-use crate::child::Form;
+use crate::child::Kind;
 use crate::family::Item;
 use crate::tally::{Difference, Tally};
 use crate::weekdays::lines;
 
-/// How scripts are sent, and their listings titled.
-pub const FORM: Form<Vec<u8>> = Form { kind: 1, word: "script", add: |script, file| add_script(script, file) };
-
-/// Whether the clock passes the end of 2199.
-#[must_use]
-pub fn passes_the_end(script: &[u8]) -> bool {
-    calls_of(script).is_some_and(|calls| watch::passes_the_end(&calls) == Ok(true))
-}
+/// Scripts.
+pub const SCRIPTS: Kind<Vec<u8>> = Kind {
+    number: 1,
+    word: "script",
+    add: |script, file| add_script(script, file),
+    passes_the_end: |script| calls_of(script).is_some_and(|calls| watch::passes_the_end(&calls) == Ok(true)),
+    expected: |script, reference| listing_of(script, reference),
+    judge,
+};
 
 /// The listing that must be printed: the Rust's, and of the weekday the reference's answers where it was asked.
-#[must_use]
-pub fn expected(script: &[u8], reference: Option<&[u8]>) -> Vec<u8> {
+fn listing_of(script: &[u8], reference: Option<&[u8]>) -> Vec<u8> {
     let rust = script::lines(script).into_bytes();
     let (Some(reference), Some(calls)) = (reference, calls_of(script)) else {
         return rust;
@@ -34,8 +34,8 @@ pub fn expected(script: &[u8], reference: Option<&[u8]>) -> Vec<u8> {
 }
 
 /// Compares the listing of a script, and what the archive's calls answer to it, with what must be answered.
-pub fn judge(item: &Item<Vec<u8>>, reference: Option<&[u8]>, listing: &[u8], tally: &mut Tally) {
-    let expected = expected(&item.input, reference);
+fn judge(item: &Item<Vec<u8>>, reference: Option<&[u8]>, listing: &[u8], tally: &mut Tally) {
+    let expected = listing_of(&item.input, reference);
     let first = Difference::of_texts("the listing", &expected, listing);
     let first = first.or_else(|| archive::difference(&item.input, &answers_in(&expected)));
     tally.item((&item.family, item.number), 1, u64::from(first.is_some()), first);

@@ -21,7 +21,7 @@ impl Weekdays {
         &mut self,
         item: &Item<I>,
         answers: &[u8],
-        expected: impl Fn(&I, Option<&[u8]>) -> Vec<u8>,
+        expected: fn(&I, Option<&[u8]>) -> Vec<u8>,
         tally: &mut Tally,
     ) {
         if expected(&item.input, Some(answers)) != answers {
@@ -49,7 +49,7 @@ impl Weekdays {
             answers.len()
         );
         if *other == 0 {
-            tally.fault(&format!("{what}: no weekday is other than the Rust's"));
+            tally.fault(&format!("{what}s: no weekday is other than the Rust's"));
         }
     }
 }

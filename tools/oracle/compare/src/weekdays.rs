@@ -45,7 +45,7 @@ impl Weekdays {
     pub fn print(&self, what: &str, tally: &mut Tally) {
         let Weekdays { answers, other } = self;
         println!(
-            "{what}: in {} the clock passes the end of 2199; {other} weekdays other than the Rust's",
+            "{what}s: in {} the clock passes the end of 2199; {other} weekdays other than the Rust's",
             answers.len()
         );
         if *other == 0 {

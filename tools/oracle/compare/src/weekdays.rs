@@ -27,7 +27,7 @@ impl Weekdays {
         if expected(&item.input, Some(answers)) != answers {
             let Item { family, number, .. } = item;
             tally
-                .fault(&format!("{family}, item {number}: the reference's answers are the Rust's but for the weekday"));
+                .fault(&format!("{family}, item {number}: the reference has more than weekdays other than the Rust's"));
         }
         let rust = expected(&item.input, None);
         let pairs = lines(&rust).zip(lines(answers));

@@ -250,6 +250,11 @@ module _ (k : Clock) (m : Model) (last : ℕ) (w : FollowsClock k m last) (first
   held_up never q u = q
   held_up (at t) q u = u
 
+-- the offset that a transaction leaves: its last weekday byte, or without one the model's weekday at its first accepted byte
+weekday_carried : (a : Accepted) (l : List Accepted) (m : Model)
+    → (closed_by (a ∷ l) m).offset ≡ (let d = date_set (a ∷ l) a.at m in offset_with (day_number d.year d.month d.day) (weekday_by (a ∷ l) (exact_weekday m a.at)))
+weekday_carried a l m = refl
+
 clock_closed : (k : Clock) (m : Model) (last : ℕ) → FollowsClock k m last → (a : Accepted) (l : List Accepted) → Within m.since last (a ∷ l)
     → TimeIn (date_by (a ∷ l) (time_at k a.at))
     → FollowsClock (clock_from (gathered (a ∷ l) k a.at) (begun (a ∷ l) k a.at)) (closed_by (a ∷ l) m) last
@@ -259,7 +264,7 @@ clock_closed k m last w a l i v =
     let x : exact_weekday m a.at ≡ weekday_at k a.at = weekday_is k m last w a.at i.0 in
     record {
       offset =
-          ap₂ (λ (z : DateTime) (y : ℕ). offset_with (day_number z.year z.month z.day) (weekday_by (a ∷ l) y)) s x
+          weekday_carried a l m ∙ ap₂ (λ (z : DateTime) (y : ℕ). offset_with (day_number z.year z.month z.day) (weekday_by (a ∷ l) y)) s x
           ∙ offset_same _ _ (weekdays (a ∷ l) (weekday_at k a.at) (weekday_shown k a.at));
       count = ap₂ (λ (z : DateTime) (y : ℕ). seconds_of z * nanos + y) s (part_held k m last w a.at i.0 (last_seconds (a ∷ l) never));
       base = base_held k m last w a.at i.0 (last_seconds (a ∷ l) never);

@@ -206,79 +206,55 @@ module _ (c : Ds3231) (sound_c : sound c ≡ true) where
 
   -- ---- what the other calls leave
 
-  -- the clock, and the pending time with its instant
-  abbrev Left : Timing → Type 0
-  Left x = (x.clock ≡ k) × (x.pending ≡ c.timing.pending) × (x.pending_at ≡ c.timing.pending_at)
+  -- the clock, and where no time byte is written the pending time with its instant
+  abbrev Left : Bool → Timing → Type 0
+  Left writes x = (x.clock ≡ k) × (writes ≡ false → (x.pending ≡ c.timing.pending) × (x.pending_at ≡ c.timing.pending_at))
 
-  commit_leaves : is_pending c.timing.pending ≡ false → Left (commit c.timing)
+  commit_leaves : is_pending c.timing.pending ≡ false → Left false (commit c.timing)
   commit_leaves e = by c.timing.pending refl e
     where
-      by : (q : Option PendingTime) → c.timing.pending ≡ q → is_pending q ≡ false → Left (commit c.timing)
-      by None f g = (ap (λ (x : Option PendingTime). committed_clock x c.timing.pending_at k) f ∙ not_set c.timing.pending_at k, sym f, refl)
+      by : (q : Option PendingTime) → c.timing.pending ≡ q → is_pending q ≡ false → Left false (commit c.timing)
+      by None f g = (ap (λ (x : Option PendingTime). committed_clock x c.timing.pending_at k) f ∙ not_set c.timing.pending_at k, λ w. (sym f, refl))
       by (Some p) f g = cc
 
-  -- the clock stays at each WRITE, and the pending time where no time byte is written
-  write_clock : (p : Phase) (b t : ℕ) → (written p b t c).timing.clock ≡ k
-  write_clock Released b t = refl
-  write_clock Reading b t = refl
-  write_clock Ignoring b t = refl
-  write_clock Writing b t = refl
-  write_clock Pointer b t = by (named b)
-    where
-      by : (d : Option Register) → (pointed_by d c.timing).clock ≡ k
-      by (Some r) = refl
-      by None = refl
-
-  write_leaves : (p : Phase) (b t : ℕ) → (in_writing p && is_defined (meaning (number_of c.timing.pointer) b)) ≡ false → Left (written p b t c).timing
-  write_leaves Released b t e = (refl, refl, refl)
-  write_leaves Reading b t e = (refl, refl, refl)
-  write_leaves Ignoring b t e = (refl, refl, refl)
-  write_leaves Writing b t e =
+  write_leaves : (p : Phase) (b t : ℕ) → Left (in_writing p && is_defined (meaning (number_of c.timing.pointer) b)) (written p b t c).timing
+  write_leaves Released b t = (refl, λ w. (refl, refl))
+  write_leaves Reading b t = (refl, λ w. (refl, refl))
+  write_leaves Ignoring b t = (refl, λ w. (refl, refl))
+  write_leaves Writing b t =
       let m = meaning (number_of c.timing.pointer) b in (
         refl,
-        ap (λ (x : Bool). if x then Some (noted m (found c.timing.pending k t)) else c.timing.pending) e,
-        ap (λ (x : Bool). if x then (if sets_seconds m then t else found_at c.timing.pending c.timing.pending_at k t) else c.timing.pending_at) e,
+        λ w. (
+          ap (λ (x : Bool). if x then Some (noted m (found c.timing.pending k t)) else c.timing.pending) w,
+          ap (λ (x : Bool). if x then (if sets_seconds m then t else found_at c.timing.pending c.timing.pending_at k t) else c.timing.pending_at) w,
+        ),
       )
-  write_leaves Pointer b t e = by (named b)
+  write_leaves Pointer b t = by (named b)
     where
-      by : (d : Option Register) → Left (pointed_by d c.timing)
-      by (Some r) = (refl, refl, refl)
-      by None = (refl, refl, refl)
+      by : (d : Option Register) → Left false (pointed_by d c.timing)
+      by (Some r) = (refl, λ w. (refl, refl))
+      by None = (refl, λ w. (refl, refl))
 
-  read_leaves : (p : Phase) (t : ℕ) → Left (has_read p t c).timing
-  read_leaves Released t = (refl, refl, refl)
-  read_leaves Pointer t = (refl, refl, refl)
-  read_leaves Writing t = (refl, refl, refl)
-  read_leaves Ignoring t = (refl, refl, refl)
-  read_leaves Reading t = chosen Left (leb 0x12 (number_of c.timing.pointer)) (λ e. (refl, refl, refl)) (λ e. (refl, refl, refl))
+  read_leaves : (p : Phase) (t : ℕ) → Left false (has_read p t c).timing
+  read_leaves Released t = (refl, λ w. (refl, refl))
+  read_leaves Pointer t = (refl, λ w. (refl, refl))
+  read_leaves Writing t = (refl, λ w. (refl, refl))
+  read_leaves Ignoring t = (refl, λ w. (refl, refl))
+  read_leaves Reading t = chosen (Left false) (leb 0x12 (number_of c.timing.pointer)) (λ e. (refl, λ w. (refl, refl))) (λ e. (refl, λ w. (refl, refl)))
 
-  call_clock : (x : Call) → (ends x && is_pending c.timing.pending) ≡ false → (chip_by x c).timing.clock ≡ k
-  call_clock (bus s (Start a r t)) e = (commit_leaves e).0
-  call_clock (bus s (Stop t)) e = (commit_leaves e).0
-  call_clock (bus s (Write b t)) e = write_clock c.timing.phase b t
-  call_clock (bus s (Read m t)) e = (read_leaves c.timing.phase t).0
-  call_clock (taking s o) e = refl
+  call_leaves : (x : Call) → (ends x && is_pending c.timing.pending) ≡ false → Left (writes_time x c.timing) (chip_by x c).timing
+  call_leaves (bus s (Start a r t)) e = let z = commit_leaves e in (z.0, z.1)
+  call_leaves (bus s (Stop t)) e = let z = commit_leaves e in (z.0, z.1)
+  call_leaves (bus s (Write b t)) e = write_leaves c.timing.phase b t
+  call_leaves (bus s (Read m t)) e = read_leaves c.timing.phase t
+  call_leaves (taking s o) e = (refl, λ w. (refl, refl))
 
-  call_leaves : (x : Call) → (ends x && is_pending c.timing.pending) ≡ false → writes_time x c.timing ≡ false → Left (chip_by x c).timing
-  call_leaves (bus s (Start a r t)) e f = let z = commit_leaves e in (z.0, z.1, z.2)
-  call_leaves (bus s (Stop t)) e f = let z = commit_leaves e in (z.0, z.1, z.2)
-  call_leaves (bus s (Write b t)) e f = write_leaves c.timing.phase b t f
-  call_leaves (bus s (Read m t)) e f = read_leaves c.timing.phase t
-  call_leaves (taking s o) e f = (refl, refl, refl)
-
-  kept : (x : Call) → sets_clock x c ≡ false → (chip_after x c).timing.clock ≡ k
-  kept x e = by (verdict x c) e
+  leaves : (x : Call) → sets_clock x c ≡ false → Left (accepts x c) (chip_after x c).timing
+  leaves x e = by (verdict x c) e
     where
-      by : (v : Numbered (Unit {0})) → (is_accepted v && (ends x && is_pending c.timing.pending)) ≡ false → (unless v (chip_by x c) c).timing.clock ≡ k
-      by (accepted u) g = call_clock x g
-      by (refused n vs) g = refl
-
-  leaves : (x : Call) → sets_clock x c ≡ false → accepts x c ≡ false → Left (chip_after x c).timing
-  leaves x e f = by (verdict x c) e f
-    where
-      by : (v : Numbered (Unit {0})) → (is_accepted v && (ends x && is_pending c.timing.pending)) ≡ false → (is_accepted v && writes_time x c.timing) ≡ false → Left (unless v (chip_by x c) c).timing
-      by (accepted u) g h = call_leaves x g h
-      by (refused n vs) g h = (refl, refl, refl)
+      by : (v : Numbered (Unit {0})) → (is_accepted v && (ends x && is_pending c.timing.pending)) ≡ false → Left (is_accepted v && writes_time x c.timing) (unless v (chip_by x c) c).timing
+      by (accepted u) g = call_leaves x g
+      by (refused n vs) g = (refl, λ w. (refl, refl))
 
   -- ---- an accepted time byte
 
@@ -327,10 +303,10 @@ module _ (c : Ds3231) (sound_c : sound c ≡ true) where
         below = below_base;
         formula = by_formula;
         is_set = is_set_by;
-        is_kept = kept;
+        is_kept = λ x e. (leaves x e).0;
         carried = carries;
         begins = begins_at_byte;
-        pending_kept = λ x e f. let z = leaves x e f in (z.1, z.2);
+        pending_kept = λ x e f. (leaves x e).1 f;
       }
 
 -- ---- the model

@@ -62,5 +62,5 @@ fn run_differs(what: &str, script: &[u8], room: usize, (status, answers): (u32, 
 }
 
 fn same<T: PartialEq + std::fmt::Display>(what: &str, expected: &T, got: &T) -> Option<Difference> {
-    (expected != got).then(|| Difference { place: what.into(), rust: expected.to_string(), here: got.to_string() })
+    (expected != got).then(|| Difference { place: what.into(), expected: expected.to_string(), here: got.to_string() })
 }

@@ -7,7 +7,7 @@ const PRINTED: usize = 20;
 pub struct Difference {
     pub place: String,
     /// The answer of the published Rust, or of the reference.
-    pub rust: String,
+    pub expected: String,
     /// This library's answer.
     pub here: String,
 }
@@ -15,14 +15,14 @@ pub struct Difference {
 impl Difference {
     /// The first line in which two texts differ.
     #[must_use]
-    pub fn of_texts(place: &str, rust: &[u8], here: &[u8]) -> Option<Difference> {
-        if rust == here {
+    pub fn of_texts(place: &str, expected: &[u8], here: &[u8]) -> Option<Difference> {
+        if expected == here {
             return None;
         }
-        let (mut rust, mut here) = (lines(rust), lines(here));
-        let mut pairs = (0..).map(|index| (index, rust.next(), here.next()));
-        let (index, rust, here) = pairs.find(|(_, rust, here)| rust != here)?;
-        Some(Difference { place: format!("{place}, line {index}"), rust: text(rust), here: text(here) })
+        let (mut expected, mut here) = (lines(expected), lines(here));
+        let mut pairs = (0..).map(|index| (index, expected.next(), here.next()));
+        let (index, expected, here) = pairs.find(|(_, expected, here)| expected != here)?;
+        Some(Difference { place: format!("{place}, line {index}"), expected: text(expected), here: text(here) })
     }
 }
 
@@ -79,7 +79,7 @@ impl Tally {
             return;
         }
         println!("different: {family}, item {number}, seed {}: {}", self.seed, first.place);
-        println!("  expected: {}", first.rust);
+        println!("  expected: {}", first.expected);
         println!("  here:     {}", first.here);
     }
 

@@ -5,7 +5,7 @@ use mathlib.Core.Bool.{Bool, true, false}
 use mathlib.Core.Path.{◌≡◌, refl, sym, subst}
 use native.Mathlib.Omega.{arith}
 use borrow.Author.Tests.{eqb-true}
-use lib.Dec.{leb, eqb}
+use lib.Dec.{eqb}
 use Rattle.std.specs.Prelude.{if◌then◌else◌}
 use Rattle.computed.proofs.Choice.{chosen}
 use Rattle.calendar.specs.Stated.{InRange}
@@ -39,7 +39,7 @@ meaning_in r b = by (meaning r b) refl
 by_register : (P : ℕ → Type 0) (r k : ℕ) {x y : ℕ} → (r ≡ k → P x) → P y → P (if eqb r k then x else y)
 by_register P r k f g = chosen P (eqb r k) (λ e. f (eqb-true r k e)) (λ e. g)
 
-century : (c : Bool) (y : ℕ) → y ≤ 99 → YearIn (2000 + (if c then 100 else 0) + y)
+pub century : (c : Bool) (y : ℕ) → y ≤ 99 → YearIn (2000 + (if c then 100 else 0) + y)
 century true y h = omega arith
 century false y h = omega arith
 
@@ -48,7 +48,7 @@ changed_in undefined i t h = h
 changed_in (sets r n flag) i t h =
     let v = h.valid in
     let y = by_register YearIn r 5 (λ e. century flag (t.year % 100) (omega arith))
-    (by_register YearIn r 6 (λ e. century (leb 2100 t.year) n (i.year e)) (v.date.year_from, v.date.year_to)) in
+    (by_register YearIn r 6 (λ e. century _ n (i.year e)) (v.date.year_from, v.date.year_to)) in
     let m = by_register (λ x. (1 ≤ x) × (x ≤ 12)) r 5 i.month (v.date.month_from, v.date.month_to) in
     let d = by_register (λ x. (1 ≤ x) × (x ≤ 31)) r 4 i.day (h.day_from, h.day_to) in
     record {

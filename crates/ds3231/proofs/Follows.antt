@@ -34,7 +34,7 @@ use Rattle.ds3231.specs.declared.Timing.{Timing}
 use Rattle.ds3231.proofs.Counting.{split_count, whole_count, part_count}
 use Rattle.ds3231.proofs.Facts.{TimeIn, HasPending, TimingIn}
 use Rattle.ds3231.proofs.Map.{next_moved, wrapping}
-use Rattle.ds3231.proofs.Weekdays.{InWeek, counted_on}
+use Rattle.ds3231.proofs.Weekdays.{InWeek, counted_on, offset_gives}
 use Rattle.ds3231.proofs.Bytes.{meaning_in, weekday_in, offset_in, weekday_shown}
 use Rattle.ds3231.proofs.Places.{stage_of, stage_addressed, by_name, read_in}
 
@@ -126,11 +126,6 @@ offset_same d w h =
     let q : k % 7 + 1 ≡ w = omega arith in
     let c = each offsets 0 49 tt k (omega arith) (omega arith) in
     offset_of candidates d w ∙ ap₂ (λ (x y : ℕ). first_offset candidates x y) (sym p) (sym q) ∙ c ∙ ap₂ (λ (x y : ℕ). offset_for y x) p q ∙ offset_for_rest w d
-
--- with its offset the day has the weekday
-pub offset_gives : (d w : ℕ) → InWeek w → weekday_for d (offset_for w d) ≡ w
-unfolding offset_for
-offset_gives d w h = omega arith
 
 -- the model's offset is the one of 0 to 6 that gives the weekday
 pub the_offset : (d w : ℕ) → 1 ≤ w → w ≤ 7 → IsOffset d w (offset_with d w) × ((o : ℕ) → IsOffset d w o → o ≡ offset_with d w)

@@ -16,5 +16,7 @@ pub mod ReportTotal
 pub mod ConversionTime
 pub mod EightBits
 pub mod Midnights
+pub mod SetAndRead
 pub mod Witness
+pub mod SetAndReadWitness
 pub mod Examples

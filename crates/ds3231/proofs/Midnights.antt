@@ -16,14 +16,14 @@ use Rattle.computed.proofs.Choice.{chosen, both, both_true}
 use Rattle.calendar.specs.Stated.{InRange, checked_seconds, time_of, seconds_of, date_time, weekday_of, nearest, day_number, next_weekday}
 use Rattle.calendar.specs.declared.DateTime.{DateTime}
 use Rattle.calendar.proofs.Examples.{examples}
-use Rattle.calendar.proofs.Laws.{weekday_formula, seconds_accepted, seconds_of_time, time_in_range, time_of_seconds, seconds_below, seconds_formula, seconds_day, nearest_in_range}
+use Rattle.calendar.proofs.Laws.{weekday_formula, seconds_accepted, seconds_of_time, time_in_range, seconds_formula, seconds_day, nearest_in_range}
 use Rattle.fields.specs.Bytes.{field_byte}
 use Rattle.fields.specs.Table.{meaning, time_bytes}
 use Rattle.fields.proofs.Laws.{seven_bytes}
 use Rattle.diagnostics.specs.declared.I2cDiagnostic.{I2cDiagnostic}
 use Rattle.ds3231.specs.Numbers.{nanos, range, day}
 use Rattle.ds3231.specs.Types.{Register, Weekday}
-use Rattle.ds3231.specs.Clock.{elapsed, seconds_at, time_at, stepped, midnights, weekday_set, weekday_at, clock_set}
+use Rattle.ds3231.specs.Clock.{elapsed, seconds_at, time_at, stepped, midnights, weekday_set, weekday_at}
 use Rattle.ds3231.specs.Timing.{is_defined, sets_seconds, found, noted, found_at, clock_from, committed_clock, shown_at, pointed_by, commit}
 use Rattle.ds3231.specs.Map.{number_of, Names, named}
 use Rattle.ds3231.specs.Registers.{byte_at}
@@ -40,11 +40,11 @@ use Rattle.ds3231.specs.declared.Event.TheVariants.{Start, Write, Read, Stop}
 use Rattle.ds3231.specs.declared.Ds3231.{Ds3231}
 use Rattle.ds3231.specs.declared.Ds3231Config.{Ds3231Config}
 use Rattle.ds3231.proofs.Facts.{TimeIn, HasPending, sound_fact, sound_test, same_test}
-use Rattle.ds3231.proofs.Weekdays.{InWeek, step, counted_on, not_set, opened_weekday, seconds_byte, weekday_byte}
+use Rattle.ds3231.proofs.Weekdays.{step, counted_on, set_date, set_shows, not_set, opened_weekday, seconds_byte, weekday_byte}
 use Rattle.ds3231.proofs.Bytes.{meaning_in, changed_in, seconds_in, time_in}
 use Rattle.ds3231.proofs.Sounds.{sound_kept, on_sound}
 use Rattle.ds3231.proofs.PowersOn.{on_chip}
-use Rattle.ds3231.proofs.Follows.{date_same, clamp_same, offset_gives, the_offset, weekdays, follow_later, follow_latch}
+use Rattle.ds3231.proofs.Follows.{date_same, clamp_same, the_offset, weekdays, follow_later, follow_latch}
 use Rattle.ds3231.proofs.Map.{named_names}
 use Rattle.ds3231.proofs.RegisterBytes.{time_entry}
 use Rattle.ds3231.proofs.ExactTime.{register_answer_lem, after_power_on, follows_after}
@@ -127,16 +127,6 @@ end_of_2199 = ap seconds_of (sym (at_seconds 6_311_433_599 _ (lit< tt) examples.
 first_of_2000 : time_of 0 ≡ date_time 2000 1 1 0 0 0
 first_of_2000 = at_seconds 0 _ (lit< tt) examples.rows.0.time_is
 
--- a clock shows the time and the weekday that it is set to
-set_date : (d : DateTime) (w t : ℕ) → InRange d → time_at (clock_set d w t) t ≡ d
-set_date d w t v = let b = seconds_below d v in ap time_of (omega arith) ∙ time_of_seconds d v
-
-set_shows : (d : DateTime) (w t : ℕ) → InRange d → InWeek w → weekday_at (clock_set d w t) t ≡ w
-set_shows d w t v i =
-    let n = day_number d.year d.month d.day in
-    let s = seconds_day d v in
-    counted_on (clock_set d w t) t ∙ (omega (arith, s)) ∙ offset_gives n w i
-
 module _ (c : Ds3231) (sound_c : sound c ≡ true) where
   abbrev k : Clock
   k = c.timing.clock
@@ -189,8 +179,8 @@ module _ (c : Ds3231) (sound_c : sound c ≡ true) where
       let i = nearest_in_range p.time in
       record {
         from = ap (λ (y : Clock). y.base_at) clock;
-        date = asked d (accepted (shown_time d b)) s ∙ ap (λ (y : Clock). accepted (time_at y b)) clock ∙ ap accepted (set_date (nearest p.time) p.weekday b i);
-        weekday = weekday_answered d b s ∙ ap (λ (y : Clock). accepted (weekday_at y b)) clock ∙ ap accepted (set_shows (nearest p.time) p.weekday b i (h.week_from, h.week_to));
+        date = asked d (accepted (shown_time d b)) s ∙ ap (λ (y : Clock). accepted (time_at y b)) clock ∙ ap accepted (set_date (nearest p.time) p.weekday b b i (omega arith));
+        weekday = weekday_answered d b s ∙ ap (λ (y : Clock). accepted (weekday_at y b)) clock ∙ ap accepted (set_shows (nearest p.time) p.weekday b b i (omega arith) (h.week_from, h.week_to));
         no_more = ap (λ (y : Ds3231). y.timing.pending) is ∙ sym n;
       }
 
@@ -357,7 +347,7 @@ on_its_day : (f : Ds3231Config) (c₀ : Ds3231) → power_on f ≡ accepted c₀
 on_its_day f c₀ e =
     on_chip (λ (c : Ds3231). (c.timing.clock.base_at ≡ 0) × (weekday_answer c 0 ≡ accepted (weekday_of f.start)) × (c.timing.pending ≡ None)) f c₀ e (λ i. (
       refl,
-      weekday_answered (chip_on f) 0 (sound_test (chip_on f) (on_sound f i)) ∙ ap accepted (set_shows f.start (weekday_of f.start) 0 i.start (omega (arith, weekday_formula f.start))),
+      weekday_answered (chip_on f) 0 (sound_test (chip_on f) (on_sound f i)) ∙ ap accepted (set_shows f.start (weekday_of f.start) 0 0 i.start (omega arith) (omega (arith, weekday_formula f.start))),
       refl,
     ))
 

@@ -49,7 +49,7 @@ commit_in c h =
     record { base = k.0; offset = k.1; pending = tt }
   where
     by : (q : Option PendingTime) → ((committed_clock q c.pending_at c.clock).base_seconds < range) × ((committed_clock q c.pending_at c.clock).weekday_offset ≤ 6)
-    by (Some p) = (seconds_below _ (nearest_in_range p.time), offset_in p.weekday _)
+    by (Some p) = (seconds_below _ (nearest_in_range p.time), offset_in _ _)
     by None = subst (λ (k : Clock). (k.base_seconds < range) × (k.weekday_offset ≤ 6)) (sym (not_set c.pending_at c.clock)) (h.base, h.offset)
 
 accept_in : (m : Meaning) → MeaningIn m → (t : ℕ) (c : Timing) → TimingIn c → TimingIn (accept m t c)

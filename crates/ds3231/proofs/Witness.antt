@@ -24,7 +24,8 @@ use Rattle.diagnostics.specs.declared.I2cDiagnosticKind.TheVariants.{ReadOnly}
 use Rattle.ds3231.specs.Numbers.{nanos, range, day}
 use Rattle.ds3231.specs.Calls.{in_quarters, chip_on, default_config, power_on, Answered, replied, Call, bus, taking, lent_store, too_short, verdict, answer}
 use Rattle.ds3231.specs.Model.{reads, Model, exact, date_with, clamped, offset_with, wraps, model_on}
-use Rattle.ds3231.proofs.Follows.{offset_same, offset_gives}
+use Rattle.ds3231.proofs.Weekdays.{offset_gives}
+use Rattle.ds3231.proofs.Follows.{offset_same}
 use Rattle.ds3231.specs.Exact.{events, fully_lent, model_after, after, TimeRead, answer_to, NeverFall, instant}
 use Rattle.ds3231.specs.declared.Ds3231Config.{Ds3231Config}
 use Rattle.ds3231.specs.declared.Event.{Event}
@@ -44,10 +45,10 @@ pub config : Ds3231Config
 config = default_config
 
 -- a store of 256 records
-pub store : List I2cDiagnostic
+unfoldable pub store : List I2cDiagnostic
 store = replicate 256 (record { at = 0; chip = Ds3231; kind = ReadOnly 0 })
 
-pub on_store : List Event → List Call
+unfoldable pub on_store : List Event → List Call
 on_store [] = []
 on_store (e ∷ es) = bus store e ∷ on_store es
 
@@ -70,11 +71,11 @@ setting =
 
 -- ---- tests that compute
 
-rises : ℕ → List Event → Bool
+unfoldable pub rises : ℕ → List Event → Bool
 rises t [] = true
 rises t (e ∷ es) = leb t (instant e) && rises (instant e) es
 
-rises_never : (t : ℕ) (es : List Event) → T (rises t es) → NeverFall t es
+pub rises_never : (t : ℕ) (es : List Event) → T (rises t es) → NeverFall t es
 unfolding rises
 rises_never t [] h = tt
 rises_never t (e ∷ es) h = (leb→le t (instant e) (first (leb t (instant e)) (rises (instant e) es) h), rises_never (instant e) es (rest (leb t (instant e)) (rises (instant e) es) h))
@@ -216,10 +217,10 @@ hour_and_bad_weekday = read_at (on_store case) case 1_500_100_000 4 0x01 (lent c
 
 -- ---- what was set is what is read
 
-set_time : DateTime
+unfoldable pub set_time : DateTime
 set_time = date_time 2124 2 28 12 34 56
 
-set_in : InRange set_time
+pub set_in : InRange set_time
 unfolding set_time
 set_in = omega (arith, month_bounds 2124 2)
 

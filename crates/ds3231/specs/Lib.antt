@@ -12,3 +12,4 @@ pub mod Total
 pub mod EightBits
 pub mod ConversionTime
 pub mod Midnights
+pub mod SetAndRead

@@ -3,7 +3,7 @@
 // To read it: of specs/ `Numbers`, `Map`, `Clock`, `Timing`, `Registers`, `Calls`, then `Model`, `Exact` and `Total`; `Changed`
 // has the parts that chip and model say each for itself. docs/EXACT-TIME.md says the theorem in plain words; its proof is
 // `proofs/ExactTime.antt`, and `proofs/Witness.antt` shows that it is not empty. `EightBits` is the claim of the weekday offset,
-// `ConversionTime` that of the conversion time, and `Midnights` that of the weekday.
+// `ConversionTime` that of the conversion time, `Midnights` that of the weekday, and `SetAndRead` that what was set is what is read.
 #![tactic(auto)]
 
 ghost use Rattle.std.specs.Prelude.{◌≡◌};

@@ -25,7 +25,7 @@ use Rattle.ds3231.specs.Clock.{time_at, weekday_at, clock_set}
 use Rattle.ds3231.specs.Timing.{is_defined, shown_at, commit, accept}
 use Rattle.ds3231.specs.Calls.{sound, Step, written, has_read, step, Answered, replied, Call, bus, taking, verdict, chip_by, answered_by}
 use Rattle.ds3231.specs.Exact.{fully_lent}
-use Rattle.ds3231.specs.SetAndRead.{seven, Legal, Instants, stop_event, set_events, read_events, if_read, read_answers, SetIsRead}
+use Rattle.ds3231.specs.SetAndRead.{seven, LegalBytes, Instants, stop_event, set_events, read_events, if_read, read_answers, SetIsRead}
 use Rattle.ds3231.specs.declared.Phase.{Phase}
 use Rattle.ds3231.specs.declared.Phase.TheVariants.{Released, Pointer, Writing, Reading, Ignoring}
 use Rattle.ds3231.specs.declared.Timing.{Timing}
@@ -153,7 +153,7 @@ year_digits false y h = (lt-leb 2100 (2000 + y) (omega arith), omega arith)
 
 -- ---- the date that they make, and its bytes
 
-module _ (b : ℕ → ℕ) (l : Legal b) where
+module _ (b : ℕ → ℕ) (l : LegalBytes b) where
   said : (r : ℕ) → r ≤ 6 → Says r (b r)
   said r h = says r (b r) (l.byte r h) (l.defined r h)
 

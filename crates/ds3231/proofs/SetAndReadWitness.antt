@@ -22,7 +22,7 @@ use Rattle.ds3231.specs.Clock.{time_at, weekday_at, clock_set}
 use Rattle.ds3231.specs.Timing.{is_defined, commit}
 use Rattle.ds3231.specs.Calls.{sound, chip_on, default_config, Call, bus, taking}
 use Rattle.ds3231.specs.Exact.{fully_lent, NeverFall}
-use Rattle.ds3231.specs.SetAndRead.{Legal, Instants, stop_event, set_events, read_events, read_answers}
+use Rattle.ds3231.specs.SetAndRead.{LegalBytes, Instants, stop_event, set_events, read_events, read_answers}
 use Rattle.ds3231.specs.declared.Ds3231.{Ds3231}
 use Rattle.ds3231.specs.declared.Timing.{Timing}
 use Rattle.ds3231.specs.declared.Event.TheVariants.{Start}
@@ -68,7 +68,7 @@ events_are l n = refl
 
 -- the bytes of l are legal, the instants never fall, and m is read
 pub record Reads (l : List ℕ) (n : ℕ) (m : List ℕ) : Type 0 where
-  pub legal : Legal (entry l)
+  pub legal : LegalBytes (entry l)
   pub never_fall : NeverFall 0 (fully_lent (calls l n))
   pub is_read : read_answers chip (calls l n) ≡ answers_of m
 
@@ -89,7 +89,7 @@ legal_byte l r = and (le (entry l r) 0xFF) (says_field (meaning r (entry l r)))
 abbrev days : List ℕ → ℕ
 days l = month_length (2000 + (if bit 7 (entry l 5) then 100 else 0) + from_digits (entry l 6)) (from_digits (entry l 5 % 0x20))
 
-legal_by : (l : List ℕ) → T (below (legal_byte l) 7) → from_digits (entry l 4) ≤ days l → Legal (entry l)
+legal_by : (l : List ℕ) → T (below (legal_byte l) 7) → from_digits (entry l 4) ≤ days l → LegalBytes (entry l)
 unfolding legal_byte
 legal_by l t d =
     record {

@@ -15,7 +15,7 @@ abbrev pub seven : {A : Type 0} → (ℕ → A) → List A
 seven f = f 0x00 ∷ f 0x01 ∷ f 0x02 ∷ f 0x03 ∷ f 0x04 ∷ f 0x05 ∷ f 0x06 ∷ []
 
 -- 'seven defined bytes, with a day its month has': `b r` is the byte of register r, and bit 7 of the month byte the century
-pub record Legal (b : ℕ → ℕ) : Type 0 where
+pub record LegalBytes (b : ℕ → ℕ) : Type 0 where
   pub byte : (r : ℕ) → r ≤ 0x06 → b r ≤ 0xFF
   pub defined : (r : ℕ) → r ≤ 0x06 → is_defined (meaning r (b r)) ≡ true
   pub day : from_digits (b 0x04) ≤ month_length (2000 + (if bit 7 (b 0x05) then 100 else 0) + from_digits (b 0x06)) (from_digits (b 0x05 % 0x20))
@@ -65,7 +65,7 @@ read_answers c (k ∷ ks) = of_read k (answer k c) ++ read_answers (chip_after k
 abbrev pub SetIsRead : Type 0
 SetIsRead = (c : Ds3231) (b : ℕ → ℕ) (k : ℕ → Bool) (t : Instants) (calls : List Call)
     → sound c ≡ true
-    → Legal b
+    → LegalBytes b
     → fully_lent calls ≡ set_events b t ++ stop_event t.stop ++ read_events k t
     → t.reading_start < t.write 0x00 + nanos
     → read_answers c calls ≡ seven (λ r. accepted (replied (Byte (b r))))

@@ -8,9 +8,9 @@ use borrow.Author.Tests.{leb-true, ltb-true, eqb-true, le-leb, lt-ltb, eq-eqb}
 use lib.Dec.{leb, ltb, eqb}
 use lib.Bits.{bit_and}
 use Rattle.std.specs.Prelude.{Option, Some, None}
-use Rattle.refusals.specs.Numbered.{Numbered, accepted, refused, is_accepted}
+use Rattle.refusals.specs.Numbered.{Numbered, accepted, refused, is_accepted, and_then}
 use Rattle.computed.proofs.Choice.{both, both_true}
-use Rattle.calendar.specs.Stated.{InRange, with_day, checked}
+use Rattle.calendar.specs.Stated.{InRange, with_day, checked, seconds_of}
 use Rattle.calendar.proofs.Laws.{in_range_accepted, accepted_in_range, month_bounds}
 use Rattle.calendar.specs.declared.DateTime.{DateTime}
 use Rattle.ds3231.specs.Numbers.{range}
@@ -171,3 +171,13 @@ same_test false false f g = refl
 
 pub sound_time_ranges : (t : DateTime) → sound_time t ≡ ranges t
 sound_time_ranges t = same_test (sound_time t) (ranges t) (λ e. ranges_test t (time_fact t e)) (λ e. time_test t (ranges_fact t e))
+
+-- ---- document 01's examples of dates
+
+-- a date of document 01's examples is in range, and has its seconds
+pub example_is : (d : DateTime) (s : ℕ) → and_then (checked d) (accepted (seconds_of d)) ≡ accepted s → InRange d × (seconds_of d ≡ s)
+example_is d s e = by (checked d) refl e
+  where
+    by : (v : Numbered (Unit {0})) → checked d ≡ v → and_then v (accepted (seconds_of d)) ≡ accepted s → InRange d × (seconds_of d ≡ s)
+    by (accepted u) p q = (accepted_in_range d p, cc)
+    by (refused n vs) p q = cc

@@ -7,16 +7,16 @@ use mathlib.Core.Path.{◌≡◌, refl, sym, ap, ap₂, ◌∙◌, subst}
 use native.Mathlib.Nat.{mod-eq_of_lt}
 use native.Mathlib.Omega.{arith}
 use borrow.Author.Tests.{eqb-true, eq-eqb}
-use lib.Dec.{leb, eqb, lit<}
+use lib.Dec.{leb, eqb}
 use Rattle.std.proofs.lemmas.Bool.{eqb-false}
 use Rattle.std.specs.Prelude.{if◌then◌else◌, Option, Some, None}
-use Rattle.refusals.specs.Numbered.{Numbered, accepted, refused, is_accepted, and_then, unless}
+use Rattle.refusals.specs.Numbered.{Numbered, accepted, refused, is_accepted, unless}
 use Rattle.computed.specs.Entries.{At}
 use Rattle.computed.proofs.Choice.{chosen, both, both_true}
-use Rattle.calendar.specs.Stated.{InRange, checked_seconds, time_of, seconds_of, date_time, weekday_of, nearest, day_number, next_weekday}
+use Rattle.calendar.specs.Stated.{InRange, time_of, seconds_of, date_time, weekday_of, nearest, day_number, next_weekday}
 use Rattle.calendar.specs.declared.DateTime.{DateTime}
 use Rattle.calendar.proofs.Examples.{examples}
-use Rattle.calendar.proofs.Laws.{weekday_formula, seconds_accepted, seconds_of_time, time_in_range, seconds_formula, seconds_day, nearest_in_range}
+use Rattle.calendar.proofs.Laws.{weekday_formula, seconds_of_time, time_of_seconds, time_in_range, seconds_formula, seconds_day, nearest_in_range}
 use Rattle.fields.specs.Bytes.{field_byte}
 use Rattle.fields.specs.Table.{meaning, time_bytes}
 use Rattle.fields.proofs.Laws.{seven_bytes}
@@ -39,7 +39,7 @@ use Rattle.ds3231.specs.declared.Timing.{Timing}
 use Rattle.ds3231.specs.declared.Event.TheVariants.{Start, Write, Read, Stop}
 use Rattle.ds3231.specs.declared.Ds3231.{Ds3231}
 use Rattle.ds3231.specs.declared.Ds3231Config.{Ds3231Config}
-use Rattle.ds3231.proofs.Facts.{TimeIn, HasPending, sound_fact, sound_test, same_test}
+use Rattle.ds3231.proofs.Facts.{example_is, TimeIn, HasPending, sound_fact, sound_test, same_test}
 use Rattle.ds3231.proofs.Weekdays.{step, counted_on, set_date, set_shows, not_set, opened_weekday, seconds_byte, weekday_byte}
 use Rattle.ds3231.proofs.Bytes.{meaning_in, changed_in, seconds_in, time_in}
 use Rattle.ds3231.proofs.Sounds.{sound_kept, on_sound}
@@ -118,14 +118,11 @@ writing_phase Ignoring e = cc
 given : {A : Type 0} (x y : A) → accepted x ≡ accepted y → x ≡ y
 given x y e = cc
 
-at_seconds : (s : ℕ) (d : DateTime) → s < range → and_then (checked_seconds s) (accepted (time_of s)) ≡ accepted d → time_of s ≡ d
-at_seconds s d h e = given (time_of s) d (ap (λ (v : Numbered (Unit {0})). and_then v (accepted (time_of s))) (sym (seconds_accepted s h)) ∙ e)
+pub end_of_2199 : InRange (date_time 2199 12 31 23 59 59) × (seconds_of (date_time 2199 12 31 23 59 59) ≡ 6_311_433_599)
+end_of_2199 = example_is _ _ examples.rows.1.1.1.0.seconds_are
 
-end_of_2199 : seconds_of (date_time 2199 12 31 23 59 59) ≡ 6_311_433_599
-end_of_2199 = ap seconds_of (sym (at_seconds 6_311_433_599 _ (lit< tt) examples.rows.1.1.1.0.time_is)) ∙ seconds_of_time 6_311_433_599
-
-first_of_2000 : time_of 0 ≡ date_time 2000 1 1 0 0 0
-first_of_2000 = at_seconds 0 _ (lit< tt) examples.rows.0.time_is
+pub first_of_2000 : InRange (date_time 2000 1 1 0 0 0) × (seconds_of (date_time 2000 1 1 0 0 0) ≡ 0)
+first_of_2000 = example_is _ _ examples.rows.0.seconds_are
 
 module _ (c : Ds3231) (sound_c : sound c ≡ true) where
   abbrev k : Clock
@@ -147,9 +144,9 @@ module _ (c : Ds3231) (sound_c : sound c ≡ true) where
       → (now_answer c (t + nanos) ≡ accepted (date_time 2000 1 1 0 0 0)) × (weekday_answer c (t + nanos) ≡ accepted (next_weekday w))
   into t w h e f =
       let n = elapsed_next k t h in
-      let s : seconds_at k t ≡ 6_311_433_599 = sym (seconds_of_time (seconds_at k t)) ∙ ap seconds_of (now_shown t _ e) ∙ end_of_2199 in
+      let s : seconds_at k t ≡ 6_311_433_599 = sym (seconds_of_time (seconds_at k t)) ∙ ap seconds_of (now_shown t _ e) ∙ end_of_2199.1 in
       let z : seconds_at k (t + nanos) ≡ 0 = omega (arith, n, s) in
-      let d = asked c (accepted (shown_time c (t + nanos))) sound_c ∙ ap (λ (x : ℕ). accepted (time_of x)) z ∙ ap accepted first_of_2000 in
+      let d = asked c (accepted (shown_time c (t + nanos))) sound_c ∙ ap (λ (x : ℕ). accepted (time_of x)) (z ∙ sym first_of_2000.1) ∙ ap accepted (time_of_seconds _ first_of_2000.0) in
       (d, steps_by t (date_time 2000 1 1 0 0 0) w h d f)
 
   same : (t u : ℕ) → (t - k.base_at) / nanos ≡ (u - k.base_at) / nanos → weekday_answer c t ≡ weekday_answer c u

@@ -35,6 +35,7 @@ use Rattle.ds3231.specs.Total.{chip_after_all}
 use Rattle.ds3231.specs.ConversionTime.{status_byte, legal}
 use Rattle.ds3231.proofs.ConversionTime.{conversion_time}
 use Rattle.ds3231.proofs.Counting.{whole_count}
+use Rattle.ds3231.proofs.Facts.{example_is}
 use Rattle.ds3231.proofs.PowersOn.{default_on}
 use Rattle.ds3231.proofs.ExactTime.{verdict_is, after_power_on, exact_time}
 use Rattle.computed.proofs.Claim.{first, rest}
@@ -96,7 +97,7 @@ on = default_on
 
 -- its seconds, from document 01's example
 seconds_on : seconds_of (date_time 2026 1 1 0 0 0) ≡ 820_540_800
-seconds_on = let e = rw (in_range_accepted (date_time 2026 1 1 0 0 0) start_in) at examples.rows.1.1.0.seconds_are in cc
+seconds_on = (example_is _ _ examples.rows.1.1.0.seconds_are).1
 
 -- ---- a READ of the witness
 

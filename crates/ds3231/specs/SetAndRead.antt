@@ -14,13 +14,13 @@ use Rattle.ds3231.specs.Types.{Ds3231, Event, Start, Write, Read, Stop, Byte}
 abbrev pub seven : {A : Type 0} → (ℕ → A) → List A
 seven f = f 0x00 ∷ f 0x01 ∷ f 0x02 ∷ f 0x03 ∷ f 0x04 ∷ f 0x05 ∷ f 0x06 ∷ []
 
--- 'seven defined bytes, with a day its month has': `b r` is the byte of register r, and bit 7 of the month byte the century
+-- 'seven defined bytes, with a day its month has': `b r` is the byte of register r. The month has the day in its year; bit 7 of the month byte set means 2100 to 2199
 pub record LegalBytes (b : ℕ → ℕ) : Type 0 where
   pub byte : (r : ℕ) → r ≤ 0x06 → b r ≤ 0xFF
   pub defined : (r : ℕ) → r ≤ 0x06 → is_defined (meaning r (b r)) ≡ true
   pub day : from_digits (b 0x04) ≤ month_length (2000 + (if bit 7 (b 0x05) then 100 else 0) + from_digits (b 0x06)) (from_digits (b 0x05 % 0x20))
 
--- the instants of the events; those of the WRITEs and READs of the time registers by register
+-- the instants of the events; `write r` and `read r` are those of register r
 pub record Instants : Type 0 where
   pub start : ℕ
   pub pointer : ℕ
@@ -44,13 +44,14 @@ stop_event None = []
 abbrev pub read_events : (k : ℕ → Bool) → Instants → List Event
 read_events k t = Start 0x68 false t.next_start ∷ Write 0x00 t.next_pointer ∷ Start 0x68 true t.reading_start ∷ seven (λ r. Read (k r) (t.read r))
 
--- the answer a of a READ that is lent 256 records, and none of another call
+-- the answer a to a READ, and none to another event
 abbrev pub if_read : Event → (a : Numbered Answered) → List (Numbered Answered)
 if_read (Start x r t) a = []
 if_read (Write b t) a = []
 if_read (Read k t) a = a ∷ []
 if_read (Stop t) a = []
 
+-- the same of a call: where it is lent 256 records, and none to a taking
 abbrev pub of_read : Call → (a : Numbered Answered) → List (Numbered Answered)
 of_read (bus s e) a = if eqb (length s) 256 then if_read e a else []
 of_read (taking s o) a = []
@@ -60,8 +61,8 @@ abbrev pub read_answers : Ds3231 → List Call → List (Numbered Answered)
 read_answers c [] = []
 read_answers c (k ∷ ks) = of_read k (answer k c) ++ read_answers (chip_after k c) ks
 
--- Of every sound chip, and every list of calls whose bus calls lent 256 records, which it does not refuse, are these events, others among them: the READs answer the seven bytes, if the START for reading comes less than a second after the seconds byte.
--- The order's other two conditions are not needed: that instants never fall, and that the next START comes within that second too
+-- Of every sound chip and every list of calls: where the bus calls that are lent 256 records are these events, and the START for reading comes less than a second after the seconds byte, the READs answer the seven bytes. Other bus calls, which a sound chip refuses, and takings may stand anywhere in the list.
+-- The order's other two conditions are not asked: that instants never fall, and that the next START comes within that second too
 abbrev pub SetIsRead : Type 0
 SetIsRead = (c : Ds3231) (b : ℕ → ℕ) (k : ℕ → Bool) (t : Instants) (calls : List Call)
     → sound c ≡ true

@@ -44,7 +44,9 @@ const SETTINGS: [Setting; 18] = [
     ([0x07, 0x08, 0x61, 0x05, 0x06, 0x87, 0x99], false, LATEST),
 ];
 
-// Spans, in nanoseconds.
+// Instants and spans, in nanoseconds. No seconds byte comes a whole number of seconds after power-on.
+const FIRST: u64 = 60_234_567_890;
+
 const MINUTE: u64 = 60_000_000_000;
 
 const SECOND: u64 = 1_000_000_000;
@@ -61,9 +63,10 @@ fn main(rt: HostRuntime) -> Result<()> {
     println!(rt; "set,stop,nanoseconds,read")?;
     for place in 0..18u8 {
         let (bytes, stop, nanoseconds) = SETTINGS[usize::from(place)];
-        let at = (1 + u64::from(place)) * MINUTE - 2 * MICROSECOND;
-        set(&mut panel, bytes, stop, at)?;
-        let time = read(&mut panel, stop, at + u64::from(nanoseconds))?;
+        let at = FIRST + u64::from(place) * MINUTE;
+        set(&mut panel, bytes, stop, at - 2 * MICROSECOND)?;
+        let start = at + u64::from(nanoseconds);
+        let time = read(&mut panel, stop, start - 2 * MICROSECOND)?;
         print_line(&rt, (bytes, stop, nanoseconds), time)?;
     }
     Ok(())

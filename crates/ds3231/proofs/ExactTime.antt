@@ -42,7 +42,7 @@ use Rattle.ds3231.proofs.Map.{names_one}
 use Rattle.ds3231.proofs.RegisterBytes.{looked_up, time_entry}
 use Rattle.ds3231.proofs.NeverRefused.{asked}
 use Rattle.ds3231.proofs.Places.{stage_of, Place, event_place}
-use Rattle.ds3231.proofs.Follows.{Follows, exact_is, follow_later, follow_latch, event_follows}
+use Rattle.ds3231.proofs.Follows.{Follows, exact_is, follow_later, follow_latch, start_latches, event_follows}
 
 -- ---- the events are the bus calls that are lent 256 records
 
@@ -116,7 +116,7 @@ pub record Stands (w : Watched) : Type 0 where
 -- an event
 marked : (e : Event) (c d : Ds3231) (m : Model) (l : ℕ) → Place c.timing m → Shown c.timing d l
     → Shown (step e c).timing (if marks e m then step_chip (step e c) c else d) (if marks e m then instant e else l)
-marked (Start a r t) c d m l p w = refl
+marked (Start a r t) c d m l p w = start_latches a r t c
 marked (Write b t) c d m l p w = write_latch c.timing.phase b t c ∙ w
 marked (Read k t) c d m l p w =
     subst (λ (x : Bool). Shown (has_read c.timing.phase t c).timing (if x then step_chip (step (Read k t) c) c else d) (if x then t else l))

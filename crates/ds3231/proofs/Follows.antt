@@ -17,7 +17,7 @@ use Rattle.fields.specs.Table.{Meaning, undefined, sets, meaning, time_bytes}
 use Rattle.ds3231.specs.Numbers.{nanos, range}
 use Rattle.ds3231.specs.Clock.{seconds_at, time_at, weekday_at, second_start}
 use Rattle.ds3231.specs.Changed.{offset_for, changed_time, changed_weekday, changed_mode, next_pointer}
-use Rattle.ds3231.specs.Timing.{phase_for, is_defined, sets_seconds, found, found_at, noted, clock_from, committed_clock, latch, in_phase, pointed, pointed_by, commit, accept}
+use Rattle.ds3231.specs.Timing.{phase_for, is_defined, sets_seconds, found, found_at, noted, clock_from, committed_clock, shown_at, latch, in_phase, pointed, pointed_by, commit, accept}
 use Rattle.ds3231.specs.Map.{number_of}
 use Rattle.ds3231.specs.Types.{Register}
 use Rattle.ds3231.specs.Calls.{written, has_read, step}
@@ -405,6 +405,10 @@ follow_read Reading t c m w =
     subst (λ (x : ℕ). Follows (has_read Reading t c).timing (if leb 0x12 x then latching t (pointing 0 m) else pointing (x + 1) m) t) (sym w.pointer)
     (wrapping (λ (x : Bool). let d = pointed (next_pointer r) k in Follows (if x then latch t d else d) (if x then latching t (pointing 0 m) else pointing (number_of r + 1) m) t) r
     (λ e. follow_latch (pointed (next_pointer r) k) (pointing 0 m) t (follow_point 0 (next_pointer r) (sym e) k m t w)) (λ e. follow_point _ (next_pointer r) (sym e) k m t w))
+
+-- START latches what the clock shows there, once the transaction is closed
+pub start_latches : (a : ℕ) (r : Bool) (t : ℕ) (c : Ds3231) → (step (Start a r t) c).timing.latched ≡ shown_at (commit c.timing) t
+start_latches a r t c = refl
 
 pub event_follows : (e : Event) (c : Ds3231) (m : Model) → TimingIn c.timing → Follows c.timing m (instant e) → Follows (step e c).timing (fed e m) (instant e)
 event_follows (Start a r t) c m o w =

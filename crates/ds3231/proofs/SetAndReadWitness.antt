@@ -156,8 +156,8 @@ last_days = (
 -- ---- at the bound
 
 -- the bytes of a clock that was set to a time and a weekday, a second on
-abbrev a_second_on : DateTime → (weekday : ℕ) → (twelve : Bool) → List ℕ
-a_second_on d w x = let k = clock_set d w set_at in time_bytes (time_at k (set_at + nanos)) (weekday_at k (set_at + nanos)) x
+abbrev bytes_a_second_on : DateTime → (weekday : ℕ) → (twelve : Bool) → List ℕ
+bytes_a_second_on d w x = let k = clock_set d w set_at in time_bytes (time_at k (set_at + nanos)) (weekday_at k (set_at + nanos)) x
 
 -- of a time d in the second century: those of the next time n, with a weekday more where a day begins
 module _ (d n : DateTime) (w : ℕ) (x : Bool) (i : InRange d) (j : InRange n) (h : InWeek w) (e : (seconds_of d + 1) % range ≡ seconds_of n) where
@@ -169,7 +169,7 @@ module _ (d n : DateTime) (w : ℕ) (x : Bool) (i : InRange d) (j : InRange n) (
       let k = clock_set d w set_at in
       omega (arith, counted_on k (set_at + nanos), seconds_day d i, offset_gives (day_number d.year d.month d.day) w h)
 
-  next_bytes : a_second_on d w x ≡ time_bytes n ((w - 1 + (seconds_of d % day + 1) / day) % 7 + 1) x
+  next_bytes : bytes_a_second_on d w x ≡ time_bytes n ((w - 1 + (seconds_of d % day + 1) / day) % 7 + 1) x
   next_bytes = ap₂ (λ (t : DateTime) (v : ℕ). time_bytes t v x) time_on weekday_on
 
 -- the date of a month byte and a year byte of the second century, whatever the year was
@@ -195,7 +195,7 @@ february_later : (c : Timing) → latched_later (february 0x56 0x72 0x82) c ≡ 
 unfolding set_time next_time bit to_digits from_digits decimal in_field plain_meaning dial_meaning month_meaning meaning hour_byte field_byte time_bytes
 february_later c =
     let f = seconds_formula set_time in
-    ap (λ (d : DateTime). a_second_on d 3 true) (dated c 24 2 28 12 34 56 set_in)
+    ap (λ (d : DateTime). bytes_a_second_on d 3 true) (dated c 24 2 28 12 34 56 set_in)
     ∙ next_bytes set_time next_time 3 true set_in next_in (omega arith) (omega (arith, f, seconds_formula next_time, seconds_below next_time next_in))
     ∙ ap (λ (m : ℕ). time_bytes next_time ((2 + m) % 7 + 1) true) {y = 0} (omega (arith, f))
 
@@ -204,7 +204,7 @@ unfolding bit to_digits from_digits decimal in_field plain_meaning dial_meaning 
 last_later c =
     let e = end_of_2199 in
     let f = first_of_2000 in
-    ap (λ (d : DateTime). a_second_on d 2 false) (dated c 99 12 31 23 59 59 e.0)
+    ap (λ (d : DateTime). bytes_a_second_on d 2 false) (dated c 99 12 31 23 59 59 e.0)
     ∙ next_bytes (date_time 2199 12 31 23 59 59) (date_time 2000 1 1 0 0 0) 2 false e.0 f.0 (omega arith) (omega (arith, e.1, f.1))
     ∙ ap (λ (m : ℕ). time_bytes (date_time 2000 1 1 0 0 0) ((1 + m) % 7 + 1) false) {y = 1} (omega (arith, e.1))
 

@@ -61,8 +61,8 @@ abbrev pub read_answers : Ds3231 → List Call → List (Numbered Answered)
 read_answers c [] = []
 read_answers c (k ∷ ks) = of_read k (answer k c) ++ read_answers (chip_after k c) ks
 
--- Of every sound chip and every list of calls: where the bus calls that are lent 256 records are these events, and the START for reading comes less than a second after the seconds byte, the READs answer the seven bytes. Other bus calls, which a sound chip refuses, and takings may stand anywhere in the list.
--- The order's other two conditions are not asked: that instants never fall, and that the next START comes within that second too
+-- of every sound chip and every list of calls: where the bus calls that are lent 256 records are these events, and the START for reading comes less than a second after the seconds byte, the READs answer the seven bytes.
+-- Other bus calls, which a sound chip refuses, and takings may stand anywhere in the list. The order's other two conditions are not asked: that instants never fall, and that the next START comes within that second too
 abbrev pub SetIsRead : Type 0
 SetIsRead = (c : Ds3231) (b : ℕ → ℕ) (k : ℕ → Bool) (t : Instants) (calls : List Call)
     → sound c ≡ true

@@ -3,17 +3,20 @@ ghost use Rattle.std.specs.Prelude.{◌≡◌, if◌then◌else◌};
 ghost use Rattle.ds3231.specs.Registers.{converting, temperature_high, temperature_low, enables_output, starts_conversion, byte_at, control_written, registers_written};
 
 use ds3231::{Register, Registers};
+pub use fields::{DATE, SECONDS, YEAR};
 
 // Numbers of registers after the time, which `as` alone takes of an enum: `write_register` takes every number.
 const ALARM_FIRST: u8 = Register::Alarm1Seconds as u8;
 
 const ALARM_LAST: u8 = Register::Alarm2Day as u8;
 
-const CONTROL: u8 = Register::Control as u8;
+pub const CONTROL: u8 = Register::Control as u8;
 
 const STATUS: u8 = Register::Status as u8;
 
 const AGING: u8 = Register::Aging as u8;
+
+pub const TEMPERATURE_MSB: u8 = Register::TemperatureMsb as u8;
 
 // Control.
 pub const CONV: u8 = 0x20;

@@ -78,5 +78,5 @@ pub(crate) fn number(rt: &impl Print, count: impl Display + Drop) {
 }
 
 pub(crate) fn byte(rt: &impl Print, value: u8) {
-    let _ = println!(rt; "{value:02X}");
+    let _ = println!(rt; "{value:02x}");
 }

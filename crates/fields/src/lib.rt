@@ -12,7 +12,7 @@ ghost use Rattle.fields.specs.Answers.{decoded_meaning, of_digits, of_digits_wit
 use calendar::DateTime;
 
 // The register map of the time, as numbers: a caller may ask for any, and the enum of the registers is of a crate above.
-const SECONDS: u8 = 0x00;
+pub const SECONDS: u8 = 0x00;
 
 const MINUTES: u8 = 0x01;
 
@@ -20,7 +20,7 @@ const HOURS: u8 = 0x02;
 
 const WEEKDAY: u8 = 0x03;
 
-const DATE: u8 = 0x04;
+pub const DATE: u8 = 0x04;
 
 const MONTH: u8 = 0x05;
 

@@ -1,3 +1,4 @@
+pub mod Copies
 pub mod Own
 pub mod Turns
 pub mod RunLaws

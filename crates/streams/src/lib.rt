@@ -14,7 +14,7 @@ use std::io::{Read, Write};
 use thiserror::Error;
 
 // A read failed, after `count` bytes.
-#[derive(Debug, Drop, Error)]
+#[derive(Clone, Copy, Debug, Error)]
 #[error("reading failed after {count} bytes: {error}")]
 pub struct ReadError {
     pub count: usize,
@@ -22,7 +22,7 @@ pub struct ReadError {
 }
 
 // Why not all was written, and how many bytes were.
-#[derive(Debug, Drop, Error)]
+#[derive(Clone, Copy, Debug, Error)]
 pub enum WriteError {
     // A write failed.
     #[error("writing failed after {count} bytes: {error}")]

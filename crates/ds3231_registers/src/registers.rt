@@ -16,6 +16,7 @@ const STATUS: u8 = Register::Status as u8;
 
 const AGING: u8 = Register::Aging as u8;
 
+// For a caller, as `CONTROL` and the three of the time: `register` of `ds3231_chip` takes a number.
 pub const TEMPERATURE_MSB: u8 = Register::TemperatureMsb as u8;
 
 // Control.

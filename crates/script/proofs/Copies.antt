@@ -1,4 +1,4 @@
--- A list that is copied into another, record by record; and a store of 256 records copied so into an array, and back. `run` copies by the library's `copy_from_slice`, which promises the whole copy: these laws say what stands there on the way.
+-- A list that is copied into another, record by record; and a store of 256 records copied so into an array, and back. No code goes by these laws: `run` copies by the library's `copy_from_slice`, which promises the whole copy.
 -- Assumes nothing.
 use Rattle.std.proofs.Common.{◌≡◌, ℕ, suc, ◌+◌, ◌≤◌, ◌<◌, Bool, true, false, eqb, List, ◌++◌, length, get_or, take, drop, set, refl, sym, ap, ◌∙◌, add-one, arith}
 use Rattle.std.proofs.lemmas.Bool.Decides.{nat_tests}

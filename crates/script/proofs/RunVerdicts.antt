@@ -3,7 +3,7 @@
 use Prim.Native.Nat.{ℕ, ◌≤◌, ◌<◌}
 use mathlib.Core.Bool.{Bool, true, not}
 use mathlib.Core.List.{List, []}
-use mathlib.Core.Path.{◌≡◌, sym, ap, ◌∙◌}
+use mathlib.Core.Path.{◌≡◌, refl, sym, ap, ◌∙◌}
 use native.Mathlib.Omega.{arith}
 use lib.ListN.{length}
 use Rattle.refusals.specs.Numbered.{accepted, refused, and_then, answered, refused_by}
@@ -56,8 +56,12 @@ module _ (h : Held) (s a : List ℕ) (len : ℕ) (l : length h.store ≡ len) wh
 
 -- ---- the run from `clockrun`'s power-on
 
+-- it begins with the chip of the default power-on
+pub begins_on : clockrun_held.chip ≡ chip_on default_config
+begins_on = refl
+
 pub power_on_is_sound : sound clockrun_held.chip ≡ true
-power_on_is_sound = power_on_sound default_config (chip_on default_config) default_on
+power_on_is_sound = ap sound begins_on ∙ power_on_sound default_config (chip_on default_config) default_on
 
 -- it is not refused, and gives that chip
 pub powers_on : (f : Ds3231Config) (r : Result Ds3231 Ds3231ConfigError) → f ≡ default_config → answered config_row r ≡ power_on f → r ≡ Ok (chip_on default_config)
